@@ -1,0 +1,4 @@
+pub mod Name
+pub mod NameLaws
+pub mod Path
+pub mod PathLaws
