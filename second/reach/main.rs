@@ -1,0 +1,100 @@
+//! Measures what a corpus of scripts reaches: every call accepted and refused with each number that it can give,
+//! and every kind of pair in the precedence rule. Give it script files; it prints a table, then what is missing,
+//! and ends with 1 if anything is.
+#![forbid(unsafe_code)]
+
+mod calls;
+mod pairs;
+mod sends;
+
+use calls::Calls;
+use pairs::Pairs;
+use second::player::{Outcome, Player};
+use second::script::{lines, parse, Line};
+use sends::Sends;
+use std::io::Write;
+
+/// All that is measured over the scripts.
+#[derive(Default)]
+struct Reach {
+    calls: Calls,
+    pairs: Pairs,
+    sends: Sends,
+    lines: usize,
+    bad_lines: usize,
+}
+
+impl Reach {
+    /// Plays one script and notes every call with what stood before and after it.
+    fn play(&mut self, script: &[u8]) {
+        let mut player = Player::default();
+        self.pairs.begin();
+        for line in lines(script) {
+            self.lines += 1;
+            let before = player.clone();
+            match player.play_line(line) {
+                Outcome::Bad => {
+                    self.bad_lines += 1;
+                    return;
+                }
+                Outcome::Silent => (),
+                Outcome::Prints(text) => {
+                    if let Line::Command(name, arguments) = parse(line) {
+                        let code = text.split(' ').next().unwrap_or("");
+                        self.note(name, &arguments, code, before, &mut player);
+                    }
+                }
+            }
+        }
+    }
+
+    fn note(
+        &mut self,
+        name: &'static str,
+        arguments: &[second::script::Argument],
+        code: &str,
+        mut before: Player,
+        after: &mut Player,
+    ) {
+        let Some(code) = code.parse().ok().filter(|_| calls::possible(name).is_some()) else { return };
+        let damaged = before.lend().look().damaged();
+        self.calls.note(name, code, damaged);
+        let old = sends::log_of(&mut before);
+        let new = sends::log_of(after);
+        if let (Some(old), Some(new)) = (old, new) {
+            self.pairs.note(name, arguments, code, &old, &new);
+            self.sends.note(name, arguments, code, damaged, &old);
+        }
+        if name == "record" {
+            self.sends.note_record(arguments, code);
+        }
+    }
+
+    fn missing(&self) -> Vec<String> {
+        let mut missing = self.calls.missing();
+        missing.extend(self.pairs.missing());
+        missing.extend(self.sends.missing());
+        if self.bad_lines == 0 {
+            missing.push("a bad line".to_string());
+        }
+        missing
+    }
+}
+
+fn main() -> std::io::Result<()> {
+    let mut reach = Reach::default();
+    let files: Vec<String> = std::env::args().skip(1).collect();
+    for file in &files {
+        reach.play(&std::fs::read(file)?);
+    }
+    let missing = reach.missing();
+    let mut text =
+        format!("{} scripts, {} lines, {} ending in a bad line\n", files.len(), reach.lines, reach.bad_lines);
+    text += &(reach.calls.table() + &reach.pairs.table() + &reach.sends.table());
+    missing.iter().for_each(|what| text += &format!("missing: {what}\n"));
+    if missing.is_empty() {
+        text += "nothing is missing\n";
+    }
+    std::io::stdout().write_all(text.as_bytes())?;
+    std::process::exit(i32::from(!missing.is_empty()));
+}

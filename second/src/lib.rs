@@ -1,0 +1,43 @@
+//! An ordered write-behind volume, as document 01 describes it.
+//!
+//! The calls take a geometry, numbers and byte slices and answer with the numbers of document 01:
+//! see [`session`] (format, mount), [`questions`], [`changes`], [`sends`] and [`losses`].
+//!
+//! ```
+//! use second::Lent;
+//! let (n, b, m) = (4, 1, 4);
+//! let (mut server, mut view, mut log) = (vec![0; 4 * 1092], vec![0; 4 * 1092], vec![0; 8 + 4 * 1048]);
+//! second::format(n, b, m, &mut server)?;
+//! let mut lent = Lent { n, b, m, server: &mut server, view: &mut view, log: &mut log };
+//! second::mount(&mut lent)?;
+//! assert_eq!(second::create(&mut lent, 0, 0, b"task", 1)?, 1);
+//! assert_eq!(second::lookup(&mut lent, 0, b"/task")?, 1);
+//! # Ok::<(), second::Refusal>(())
+//! ```
+#![forbid(unsafe_code)]
+
+pub mod apply;
+pub mod bytes;
+pub mod changes;
+pub mod form;
+pub mod geometry;
+pub mod log;
+pub mod losses;
+pub mod names;
+pub mod order;
+pub mod player;
+pub mod printer;
+pub mod questions;
+pub mod record;
+pub mod refusal;
+pub mod script;
+pub mod sends;
+pub mod session;
+pub mod volume;
+
+pub use changes::{create, forder, make_directory, remove, rename, set_length, write};
+pub use losses::{read_record, renew, take, Head};
+pub use questions::{list, lookup, read, stat, Stat};
+pub use refusal::Refusal;
+pub use sends::{cut, fsync, push, Fsync};
+pub use session::{format, mount, Lent};
