@@ -1,0 +1,14 @@
+pub mod Programs
+pub mod Slot
+pub mod Stored
+pub mod Order
+pub mod Depend
+pub mod Change
+pub mod Predecessors
+pub mod OrderCases
+pub mod OrderLaws
+pub mod PredecessorLaws
+pub mod SlotLaws
+pub mod StoredLaws
+pub mod ProgramLaws
+pub mod ChangeLaws

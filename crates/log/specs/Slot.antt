@@ -1,0 +1,70 @@
+-- Document 01, "Geometry and stored form": the log, its slots, and when it is well formed.
+use Prim.Native.Nat.{ℕ, zero, suc, _^_}
+use mathlib.Core.List.{List, [], _∷_}
+use mathlib.Core.Bool.{Bool, true, false, not, _&&_, _||_}
+use lib.ListN.{length}
+use lib.Dec.{leb, ltb, eqb}
+use Rattle.records.specs.Operation.{Record}
+use Rattle.records.specs.Fields.{valid, fits}
+
+-- "state (1: 0 free, 1 waiting, 2 lost)"; free slots are those after the used ones
+pub data State : Type 0 where
+  waiting : State
+  lost : State
+
+abbrev pub stateNumber : State → ℕ
+stateNumber waiting = 1
+stateNumber lost = 2
+
+-- "state .., dependents (4 ..; zero if lost), a loss record"
+pub record Slot : Type 0 where
+  pub state : State
+  pub dependents : ℕ
+  pub loss : Record
+
+abbrev pub slotOf : State → ℕ → Record → Slot
+slotOf s d r = record { state = s; dependents = d; loss = r }
+
+-- "next sequence number (4, from 1), marked programs (4 ..), then .. slots": the used ones, in their order
+pub record Log : Type 0 where
+  pub next : ℕ
+  pub marks : ℕ
+  pub slots : List Slot
+
+abbrev pub logOf : ℕ → ℕ → List Slot → Log
+logOf n k s = record { next = n; marks = k; slots = s }
+
+abbrev pub isWaiting : Slot → Bool
+isWaiting s = eqb (stateNumber (s .state)) 1
+
+abbrev pub sequenceOf : Slot → ℕ
+sequenceOf s = s .loss .sequence
+
+-- "Records fit n and b"; any 32 bits are dependents, "zero if lost"
+abbrev pub goodSlot : ℕ → ℕ → Slot → Bool
+goodSlot n b s =
+    (valid (s .loss) && fits n b (s .loss)) && (ltb (s .dependents) (2 ^ 32) && (isWaiting s || eqb (s .dependents) 0))
+
+unfoldable pub goodSlots : ℕ → ℕ → List Slot → Bool
+goodSlots n b [] = true
+goodSlots n b (s ∷ l) = goodSlot n b s && goodSlots n b l
+
+-- "in rising sequence, the lost before the waiting, all below the next number": whether one slot may follow another, and
+-- the last one the next number
+abbrev pub follows : Slot → Slot → Bool
+follows s t = ltb (sequenceOf s) (sequenceOf t) && (not (isWaiting s) || isWaiting t)
+
+unfoldable pub rising : ℕ → List Slot → Bool
+rising next [] = true
+rising next (s ∷ []) = ltb (sequenceOf s) next
+rising next (s ∷ t ∷ l) = follows s t && rising next (t ∷ l)
+
+-- "next sequence number (4, from 1)"; 4,294,967,295 is the last
+unfoldable pub wellFormed : ℕ → ℕ → ℕ → Log → Bool
+wellFormed n b m l =
+    (leb 1 (l .next) && ltb (l .next) (2 ^ 32))
+    && (ltb (l .marks) (2 ^ 32) && (leb (length (l .slots)) m && (goodSlots n b (l .slots) && rising (l .next) (l .slots))))
+
+-- Mount "begins an empty log, next number 1 and no marks"
+abbrev pub emptyLog : Log
+emptyLog = logOf 1 0 []

@@ -1,0 +1,61 @@
+-- Document 01, "Geometry and stored form": the bytes of a log, and the log of some bytes.
+use Prim.Native.Nat.{ℕ, zero, suc, _+_, _*_, _-_}
+use mathlib.Core.List.{List, [], _∷_, _++_}
+use mathlib.Core.Bool.{Bool, true, false, _&&_, cond}
+use mathlib.Core.Option.{Option, none, some}
+use lib.ListN.{length, getD, take, drop, replicate}
+use lib.Dec.{eqb}
+use Rattle.records.specs.Numeral.{bytes, numeral}
+use Rattle.records.specs.Operation.{Record}
+use Rattle.records.specs.Fields.{encode}
+use Rattle.records.specs.Answer.{decodeAt}
+use Rattle.volume.specs.Stored.{padded, sameBytes}
+use Rattle.log.specs.Slot.{State, waiting, lost, stateNumber, Slot, slotOf, Log, logOf, wellFormed}
+
+-- "m slots of 1,048 bytes"
+abbrev pub slotBytes : ℕ
+slotBytes = 1048
+
+abbrev pub logBytes : ℕ → ℕ
+logBytes m = 8 + m * slotBytes
+
+-- "state (1 ..), 3 zero bytes, dependents (4 ..), a loss record, zeros"
+unfoldable pub encodeSlot : Slot → List ℕ
+encodeSlot s =
+    bytes 1 (stateNumber (s .state)) ++ (replicate 3 0 ++ (bytes 4 (s .dependents) ++ padded (slotBytes - 8) (encode (s .loss))))
+
+unfoldable pub encodeSlots : List Slot → List ℕ
+encodeSlots [] = []
+encodeSlots (s ∷ l) = encodeSlot s ++ encodeSlots l
+
+-- "next sequence number (4 ..), marked programs (4 ..), then m slots", the free ones zero
+unfoldable pub encodeLog : ℕ → Log → List ℕ
+encodeLog m l = bytes 4 (l .next) ++ (bytes 4 (l .marks) ++ padded (m * slotBytes) (encodeSlots (l .slots)))
+
+-- the used slot that a slot's bytes tell of, if their state is one and a record stands behind it
+abbrev pub slotFrom : ℕ → ℕ → Option Record → Option Slot
+slotFrom zero d r = none
+slotFrom (suc zero) d none = none
+slotFrom (suc zero) d (some r) = some (slotOf waiting d r)
+slotFrom (suc (suc k)) d none = none
+slotFrom (suc (suc k)) d (some r) = some (slotOf lost d r)
+
+unfoldable pub readSlot : List ℕ → Option Slot
+readSlot s = slotFrom (getD s 0 0) (numeral (take 4 (drop 4 s))) (decodeAt s 8)
+
+-- "Used slots come first": those up to the first that is none
+abbrev pub onSlot : Option Slot → List Slot → List Slot
+onSlot none l = []
+onSlot (some s) l = s ∷ l
+
+unfoldable pub readSlots : ℕ → List ℕ → List Slot
+readSlots zero s = []
+readSlots (suc m) s = onSlot (readSlot (take slotBytes s)) (readSlots m (drop slotBytes s))
+
+unfoldable pub readLog : ℕ → List ℕ → Log
+readLog m s = logOf (numeral (take 4 s)) (numeral (take 4 (drop 4 s))) (readSlots m (drop 8 s))
+
+-- bytes are of the right form exactly if they are those of a well-formed log, which is then the one that their fields tell of
+unfoldable pub decodeLog : ℕ → ℕ → ℕ → List ℕ → Option Log
+decodeLog n b m s =
+    cond (wellFormed n b m (readLog m s) && sameBytes (encodeLog m (readLog m s)) s) (some (readLog m s)) none

@@ -1,0 +1,18 @@
+-- `records::fit::below_if` meets its contract: the test is asked where the bit stands.
+-- Assumes nothing.
+use borrow.Author.Needs.{needs}
+use mathlib.Core.Path.{sym, _∙_}
+use Rattle.records.proofs.fit.below_if.Statement.{statement}
+use Rattle.records.proofs.fit.below_if.Tie as tie
+
+stands-requires : tie.Need-stands-requires
+stands-requires c κs = search needs
+
+returns : tie.Need-returns
+returns c = rw (sym (c .before .stands .ensures) ∙ c .if1 .taken)
+
+returns-2 : tie.Need-returns-2
+returns-2 c = rw (sym (c .before .stands .ensures) ∙ c .if1 .left)
+
+pub below-if-spec : {M : Type 1} → statement M
+below-if-spec = tie.close (tie.spec stands-requires returns returns-2)

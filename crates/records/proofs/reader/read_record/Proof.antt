@@ -1,0 +1,22 @@
+-- `records::reader::read_record` meets its contract: what the fields give one after the other is exact, by `ExactLaws`.
+-- Assumes nothing.
+use borrow.Author.Needs.{needs}
+use native.Mathlib.Omega.{arith}
+use mathlib.Core.Path.{sym, subst}
+use Rattle.records.specs.declared.reader.Reading.{Reading}
+use Rattle.records.specs.Answer.{Exact}
+use Rattle.records.specs.ExactLaws.{exact}
+use Rattle.records.proofs.reader.read_record.Statement.{statement}
+use Rattle.records.proofs.reader.read_record.Tie as tie
+
+record-requires : tie.Need-record-requires
+record-requires c κs = search needs
+
+returns : tie.Need-returns
+returns c = let k = c .before in
+    let s = k .before .args .s .now in
+    let at = k .before .args .at in
+    (c .record .ensures, subst (λ (y : Reading). Exact s at y) (sym (c .record .ensures)) (exact s (λ i. omega (arith, k .shared-slice-known .given i)) at))
+
+pub read-record-spec : {M : Type 1} → statement M
+read-record-spec = tie.close (tie.spec record-requires returns)

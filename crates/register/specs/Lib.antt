@@ -1,0 +1,5 @@
+pub mod Replay
+pub mod Register
+pub mod History
+pub mod Run
+pub mod Cases

@@ -1,0 +1,11 @@
+-- Document 01, "The register": "A replay applies a set in issue order to the volume as mounted, passing over what does not
+-- apply".
+use mathlib.Core.List.{List, [], _∷_}
+use mathlib.Core.Bool.{Bool, true, false, cond}
+use Rattle.records.specs.Operation.{Record}
+use Rattle.volume.specs.Volume.{Volume}
+use Rattle.volume.specs.Apply.{applies, apply}
+
+unfoldable pub replay : Volume → List Record → Volume
+replay v [] = v
+replay v (r ∷ l) = replay (cond (applies v (r .operation)) (apply v (r .operation)) v) l

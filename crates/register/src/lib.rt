@@ -1,0 +1,1 @@
+// The register (document 01, "The register"): definitions and proofs alone, in specs/.

@@ -1,0 +1,12 @@
+pub mod Decimal
+pub mod Put
+pub mod PutLaws
+pub mod DecimalLaws
+pub mod Line
+pub mod LineLaws
+pub mod Report
+pub mod Pass
+pub mod PassLaws
+pub mod Run
+pub mod ReportLaws
+pub mod Cases

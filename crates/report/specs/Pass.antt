@@ -1,0 +1,40 @@
+-- What one pass over the bytes at hand does: it tells what they decide of the report, and where it goes on.
+use Prim.Native.Nat.{ℕ, _+_, _≤_, _<_}
+use mathlib.Core.Path.{_≡_}
+use mathlib.Core.List.{List, [], _++_}
+use mathlib.Core.Bool.{Bool, true, false}
+use lib.ListN.{length}
+use Rattle.records.specs.Operation.{Record}
+use Rattle.records.specs.Fields.{encode, valid}
+use Rattle.report.specs.declared.pass.State.{State}
+use Rattle.report.specs.declared.pass.State.the-variants.{Going, Done}
+use Rattle.report.specs.declared.pass.Progress.{Progress}
+use Rattle.report.specs.Put.{put}
+use Rattle.report.specs.Line.{lineOf, badLine}
+use Rattle.report.specs.Report.{NotOne}
+
+-- the bytes of the longest record: head, object, offset, and 1,024 bytes of data behind their length
+abbrev pub longest : ℕ
+longest = 1040
+
+-- the bytes at hand decide what stands at their start: if the input has ended, or if any record would be whole
+abbrev pub Decides : Bool → List ℕ → Type 0
+Decides true s = Unit {0}
+Decides false s = longest ≤ length s
+
+-- whether the input has ended with the bytes at hand; the offset of their first byte; the bytes; how it goes on; how many
+-- of them were passed; what is printed
+pub data Pass (ended : Bool) : ℕ → List ℕ → State → ℕ → List ℕ → Type 0 where
+  told : {at n : ℕ} {rest out : List ℕ} {state : State} (r : Record) → valid r ≡ true → Decides ended (encode r ++ rest) →
+      Pass ended (at + length (encode r)) rest state n out → Pass ended at (encode r ++ rest) state (length (encode r) + n) (lineOf r ++ out)
+  bad : {at : ℕ} {s : List ℕ} → NotOne s → Decides ended s → Pass ended at s Done 0 (badLine at)
+  waits : {at : ℕ} {s : List ℕ} → ended ≡ false → length s < longest → Pass ended at s Going 0 []
+  ends : {at : ℕ} → ended ≡ true → Pass ended at [] Done 0 []
+
+-- a pass that wrote its text at the start of a buffer
+pub record Passed (s : List ℕ) (base : ℕ) (ended : Bool) (before after : List ℕ) (r : Progress) : Type 0 where
+  pub text : List ℕ
+  pub wrote : after ≡ put before 0 text
+  pub written : r .written ≡ length text
+  pub room : length text ≤ length before
+  pub pass : Pass ended base s (r .state) (r .next) text

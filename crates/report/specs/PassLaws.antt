@@ -1,0 +1,215 @@
+-- How a pass goes from place to place.
+use Prim.Native.Nat.{ℕ, _+_, _*_, _-_, _^_, _≤_, _<_}
+use native.Mathlib.Omega.{arith}
+use mathlib.Core.Path.{_≡_, refl, ap, sym, _∙_}
+use mathlib.Core.List.{List, [], _++_, append-assoc, append-nil}
+use mathlib.Core.Bool.{Bool, true, false, not, and-eq-true-iff}
+use lib.ListN.{length, drop, length-append, length-drop, drop-of-length-le}
+use lib.Seq.{drop-drop, drop-append-seam}
+use lib.Dec.{leb}
+use borrow.Author.Tests.{leb-true}
+use Rattle.records.specs.declared.kind.Kind.{Kind}
+use Rattle.records.specs.declared.kind.Kind.the-variants.{CreateFile, MakeDirectory, Remove, Rename, Overwrite, Append, SetLength, Forder}
+use Rattle.records.specs.declared.reader.Whole.{Whole}
+use Rattle.records.specs.declared.reader.Reading.{Reading}
+use Rattle.records.specs.declared.reader.Reading.the-variants.{Is as RecordIs, Bad as NoRecord}
+use Rattle.records.specs.Kind.{codeOf}
+use Rattle.records.specs.Numeral.{Bytes}
+use Rattle.records.specs.Operation.{Record, kindOf}
+use Rattle.records.specs.Fields.{encode, valid, between, validHead}
+use Rattle.records.specs.Reader.{recordAt}
+use Rattle.records.specs.Answer.{wholeOf, Exact, read, refused}
+use Rattle.records.specs.ExactLaws.{exact, valid-inv, encode-length}
+use Rattle.report.specs.declared.pass.State.{State}
+use Rattle.report.specs.declared.pass.State.the-variants.{Going, Done}
+use Rattle.report.specs.Put.{put}
+use Rattle.report.specs.PutLaws.{put-length, put-none, then-put}
+use Rattle.report.specs.Line.{line, lineOf, badLine}
+use Rattle.report.specs.LineLaws.{line-short, bad-short}
+use Rattle.report.specs.Report.{NotOne}
+use Rattle.report.specs.Pass.{longest, Decides, Pass, told, bad, waits, ends, Passed}
+
+-- a valid record's line has at most 16 bytes
+pub line-of-short : (r : Record) → valid r ≡ true → length (lineOf r) ≤ 16
+unfolding validHead
+line-of-short r h =
+    let v = and-eq-true-iff (between 1 4294967294 (r .sequence)) (between 0 31 (r .program)) .0 (valid-inv r h .head) in
+    let s = and-eq-true-iff (leb 1 (r .sequence)) (leb (r .sequence) 4294967294) .0 (v .0) in
+    let p = and-eq-true-iff (leb 0 (r .program)) (leb (r .program) 31) .0 (v .1) in
+    line-short (r .sequence) (r .program) (codeOf (kindOf (r .operation)))
+    (omega (arith, leb-true (r .sequence) 4294967294 (s .1))) (omega (arith, leb-true (r .program) 31 (p .1))) (code-small (kindOf (r .operation)))
+  where
+    code-small : (k : Kind) → codeOf k < 10
+    code-small CreateFile = omega arith
+    code-small MakeDirectory = omega arith
+    code-small Remove = omega arith
+    code-small Rename = omega arith
+    code-small Overwrite = omega arith
+    code-small Append = omega arith
+    code-small SetLength = omega arith
+    code-small Forder = omega arith
+
+-- what a record that is read at a place says of it
+pub record ReadAt (s : List ℕ) (at : ℕ) (w : Whole) : Type 0 where
+  pub found : Record
+  pub rest : List ℕ
+  pub good : valid found ≡ true
+  pub begins : drop at s ≡ encode found ++ rest
+  pub answer : w ≡ wholeOf found at
+
+pub read-at : (s : List ℕ) → Bytes s → (at : ℕ) (w : Whole) → recordAt s at ≡ RecordIs w → ReadAt s at w
+read-at s byte at w e = go (recordAt s at) (exact s byte at) e
+  where
+    go : (x : Reading) → Exact s at x → x ≡ RecordIs w → ReadAt s at w
+    go x (read r rest h d) f = record { found = r; rest = rest; good = h; begins = d; answer = cc }
+    go x (refused n) f = let z : _≡_ {A = ℕ} 0 1 = cc in absurd (omega arith)
+
+pub not-one : (s : List ℕ) → Bytes s → (at : ℕ) → at < length s → recordAt s at ≡ NoRecord → NotOne (drop at s)
+not-one s byte at l e = go (recordAt s at) (exact s byte at) e
+  where
+    go : (x : Reading) → Exact s at x → x ≡ NoRecord → NotOne (drop at s)
+    go x (read r rest h d) f = let z : _≡_ {A = ℕ} 0 1 = cc in absurd (omega arith)
+    go x (refused n) f = record { some = λ z. let y : length (drop at s) ≡ 0 = ap length z in omega (arith, length-drop at s); none = n }
+
+-- the line of the record that was read is that of its numbers
+pub line-read : (s : List ℕ) (at : ℕ) (w : Whole) (x : ReadAt s at w) → line (w .head .sequence) (w .head .program) (codeOf (w .head .kind)) ≡ lineOf (x .found)
+unfolding wholeOf
+line-read s at w x = ap (λ (v : Whole). line (v .head .sequence) (v .head .program) (codeOf (v .head .kind))) (x .answer)
+
+pub next-read : (s : List ℕ) (at : ℕ) (w : Whole) (x : ReadAt s at w) → w .next ≡ at + length (encode (x .found))
+unfolding wholeOf
+next-read s at w x = ap (λ (v : Whole). v .next) (x .answer)
+
+-- a record that is read lies in the bytes, and has at least 8 of them
+pub next-within : (s : List ℕ) (at : ℕ) (w : Whole) → at ≤ length s → ReadAt s at w → (at + 8 ≤ w .next) × (w .next ≤ length s)
+next-within s at w h x =
+    let n = next-read s at w x in
+    let l : length s - at ≡ length (encode (x .found)) + length (x .rest) =
+    sym (length-drop at s) ∙ ap length (x .begins) ∙ length-append (encode (x .found)) (x .rest) in
+    let e = encode-length (x .found) (x .good) in
+    (omega arith, omega arith)
+
+pub rest-read : (s : List ℕ) (at : ℕ) (w : Whole) (x : ReadAt s at w) → drop (w .next) s ≡ x .rest
+rest-read s at w x =
+    ap (λ (n : ℕ). drop n s) (next-read s at w x) ∙ sym (drop-drop (length (encode (x .found))) at s)
+    ∙ ap (drop (length (encode (x .found)))) (x .begins) ∙ drop-append-seam (encode (x .found)) (x .rest)
+
+pub decides : (ended : Bool) (s : List ℕ) (at : ℕ) → (ended ≡ false → longest ≤ length s - at) → Decides ended (drop at s)
+decides true s at h = tt
+decides false s at h = rw length-drop (h refl)
+
+-- a pass that has come to a place of the bytes, and to another of the buffer
+pub record Begun (s : List ℕ) (base : ℕ) (ended : Bool) (before : List ℕ) (at to : ℕ) (out : List ℕ) : Type 0 where
+  pub text : List ℕ
+  pub wrote : out ≡ put before 0 text
+  pub written : to ≡ length text
+  pub within : at ≤ length s
+  pub few : to ≤ 2 * at
+  pub goes : (state : State) (n : ℕ) (t : List ℕ) → Pass ended (base + at) (drop at s) state n t → Pass ended base s state (at + n) (text ++ t)
+
+module _ (s : List ℕ) (base : ℕ) (ended : Bool) (before : List ℕ) where
+  pub begun-start : Begun s base ended before 0 0 before
+  begun-start =
+      record {
+        text = [];
+        wrote = sym (put-none before 0);
+        written = refl;
+        within = omega arith;
+        few = omega arith;
+        goes =
+            λ state n t p.
+            let e : base + 0 ≡ base = omega arith in
+            let f : 0 + n ≡ n = omega arith in
+            rw f (rw e at p);
+      }
+
+  module _ (at to : ℕ) (out : List ℕ) (b : Begun s base ended before at to out) (enough : 2 * length s + 25 ≤ length before) where
+    pub begun-length : length out ≡ length before
+    begun-length = ap length (b .wrote) ∙ put-length before 0 (b .text) (omega (arith, b .written, b .within, b .few))
+
+    pub bad-room : base + at < 2 ^ 64 → to + length (badLine (base + at)) ≤ length out
+    bad-room h = omega (arith, begun-length, bad-short (base + at) h, b .within, b .few)
+
+    pub line-room : (w : Whole) → ReadAt s at w → to + length (line (w .head .sequence) (w .head .program) (codeOf (w .head .kind))) ≤ length out
+    line-room w x =
+        omega (arith, begun-length, ap length (line-read s at w x), line-of-short (x .found) (x .good), next-within s at w (b .within) x, b .few)
+
+    -- one record and its line further
+    pub begun-line : (w : Whole) → ReadAt s at w → Decides ended (drop at s) → (to' : ℕ) (out' : List ℕ) →
+        to' ≡ to + length (line (w .head .sequence) (w .head .program) (codeOf (w .head .kind))) →
+        out' ≡ put out to (line (w .head .sequence) (w .head .program) (codeOf (w .head .kind))) → Begun s base ended before (w .next) to' out'
+    begun-line w x d to' out' n e =
+        let l = line-read s at w x in
+        let m = next-read s at w x in
+        let k : to' ≡ to + length (lineOf (x .found)) = n ∙ ap (λ (t : List ℕ). to + length t) l in
+        let r = line-room w x in
+        let g = begun-length in
+        record {
+          text = b .text ++ lineOf (x .found);
+          wrote =
+              then-put before 0 (b .text) (lineOf (x .found)) (b .wrote) (omega (arith, b .written)) (e ∙ ap (put out to) l)
+              (omega (arith, b .written, ap length l));
+          written = omega (arith, length-append (b .text) (lineOf (x .found)), b .written);
+          within = next-within s at w (b .within) x .1;
+          few = omega (arith, line-of-short (x .found) (x .good), next-within s at w (b .within) x, b .few);
+          goes =
+              λ state c t p.
+              let a : base + w .next ≡ base + at + length (encode (x .found)) = omega arith in
+              let q : Pass ended (base + at + length (encode (x .found))) (x .rest) state c t = rw (a, rest-read s at w x) at p in
+              let dd : Decides ended (encode (x .found) ++ x .rest) = rw (x .begins) at d in
+              let u : Pass ended (base + at) (encode (x .found) ++ x .rest) state (length (encode (x .found)) + c) (lineOf (x .found) ++ t) = told (x .found) (x .good) dd q in
+              let v : Pass ended (base + at) (drop at s) state (length (encode (x .found)) + c) (lineOf (x .found) ++ t) = rw (x .begins) u in
+              let f : w .next + c ≡ at + (length (encode (x .found)) + c) = omega arith in
+              rw (f, append-assoc) (b .goes state (length (encode (x .found)) + c) (lineOf (x .found) ++ t) v);
+        }
+
+    -- a bad record
+    pub begun-bad : NotOne (drop at s) → Decides ended (drop at s) → (end : ℕ) (out' : List ℕ) → base + at < 2 ^ 64 →
+        end ≡ to + length (badLine (base + at)) → out' ≡ put out to (badLine (base + at)) → Passed s base ended before out' (record { next = at; written = end; state = Done })
+    begun-bad o d end out' h n e =
+        let r = bad-room h in
+        let g = begun-length in
+        let f : at + 0 ≡ at = omega arith in
+        record {
+          text = b .text ++ badLine (base + at);
+          wrote = then-put before 0 (b .text) (badLine (base + at)) (b .wrote) (omega (arith, b .written)) e (omega (arith, b .written));
+          written = omega (arith, length-append (b .text) (badLine (base + at)), b .written);
+          room = omega (arith, length-append (b .text) (badLine (base + at)), b .written);
+          pass = rw f at (b .goes Done 0 (badLine (base + at)) (bad o d));
+        }
+
+    -- more input is wanted
+    pub begun-waits : ended ≡ false → length s < at + longest → Passed s base ended before out (record { next = at; written = to; state = Going })
+    begun-waits f h =
+        let g = begun-length in
+        let z : at + 0 ≡ at = omega arith in
+        record {
+          text = b .text;
+          wrote = b .wrote;
+          written = b .written;
+          room = omega (arith, b .written, b .few, b .within);
+          pass = rw (z, append-nil) at (b .goes Going 0 [] (waits f (rw length-drop (omega arith))));
+        }
+
+    -- the end of the input
+    pub begun-ends : ended ≡ true → length s ≤ at → Passed s base ended before out (record { next = at; written = to; state = Done })
+    begun-ends f h =
+        let g = begun-length in
+        let z : at + 0 ≡ at = omega arith in
+        let e : drop at s ≡ [] = drop-of-length-le s h in
+        let p : Pass ended (base + at) (drop at s) Done 0 [] = rw e (ends f) in
+        record {
+          text = b .text;
+          wrote = b .wrote;
+          written = b .written;
+          room = omega (arith, b .written, b .few, b .within);
+          pass = rw (z, append-nil) at (b .goes Done 0 [] p);
+        }
+
+-- a test of a flag that led past a wait: the input has ended, or enough is left
+pub kept-on : (ended : Bool) (n : ℕ) → not ended ≡ true → longest ≤ n → ended ≡ false → longest ≤ n
+kept-on ended n t h e = h
+
+pub had-ended : (ended : Bool) (n : ℕ) → not ended ≡ false → ended ≡ false → longest ≤ n
+had-ended true n t e = let z : _≡_ {A = ℕ} 0 1 = cc in absurd (omega arith)
+had-ended false n t e = let z : _≡_ {A = ℕ} 0 1 = cc in absurd (omega arith)

@@ -1,0 +1,15 @@
+pub mod Call
+pub mod Refusal
+pub mod Model
+pub mod Question
+pub mod Issue
+pub mod Edit
+pub mod Send
+pub mod Step
+pub mod RefusalLaws
+pub mod IssueLaws
+pub mod EditLaws
+pub mod AcceptLaws
+pub mod SoundLaws
+pub mod StepLaws
+pub mod SendLaws

@@ -1,0 +1,112 @@
+-- What the entries leave in the buffers: bytes of the right form, for every geometry in range and every call.
+use Prim.Native.Nat.{ℕ, _≤_, _<_}
+use native.Mathlib.Omega.{arith}
+use mathlib.Core.Path.{_≡_, refl, sym, ap, _∙_, subst}
+use mathlib.Core.List.{List, [], _∷_}
+use mathlib.Core.Bool.{Bool, true, false, _&&_, cond, and-eq-true-iff}
+use mathlib.Core.Option.{Option, none, some}
+use lib.ListN.{length}
+use lib.Dec.{eqb}
+use borrow.Author.Tests.{eq-eqb}
+use Rattle.volume.specs.Volume.{Volume, formatted}
+use Rattle.volume.specs.Form.{wellFormed}
+use Rattle.volume.specs.Stored.{encodeVolume, decodeVolume}
+use Rattle.volume.specs.StoredLaws
+use Rattle.log.specs.Slot.{Log, emptyLog}
+use Rattle.log.specs.Slot
+use Rattle.log.specs.SlotLaws.{empty-good}
+use Rattle.log.specs.Stored.{encodeLog, decodeLog, logBytes}
+use Rattle.log.specs.StoredLaws as LogLaws
+use Rattle.session.specs.Call.{Geometry, Buffers, Call, Answer, inRange, serverFits, lengthsFit}
+use Rattle.session.specs.Model.{Model, model, Outcome}
+use Rattle.session.specs.Step.{Result, outcome, encodeModel, joinModel, decodeModel, onModel, step, mount, format, formatLeaves, isSome}
+use Rattle.session.specs.EditLaws.{Sound, objects-few, blocks-few}
+use Rattle.session.specs.SoundLaws.{call-sound}
+
+-- buffers of the right lengths that store a model
+pub record Holds (g : Geometry) (s : Buffers) (x : Model) : Type 0 where
+  pub sound : Sound g x
+  pub fit : lengthsFit g s ≡ true
+  pub stored : encodeModel g x ≡ s
+  pub read : decodeModel g s ≡ some x
+
+-- each of the three is read for itself
+join-inv : (s v : Option Volume) (l : Option Log) (x : Model) → joinModel s v l ≡ some x → (s ≡ some (x .server)) × (v ≡ some (x .view)) × (l ≡ some (x .log))
+join-inv none v l x e = let z : _≡_ {A = ℕ} 0 1 = cc in absurd (omega arith)
+join-inv (some s) none l x e = let z : _≡_ {A = ℕ} 0 1 = cc in absurd (omega arith)
+join-inv (some s) (some v) none x e = let z : _≡_ {A = ℕ} 0 1 = cc in absurd (omega arith)
+join-inv (some s) (some v) (some l) x e =
+    let m : model s v l ≡ x = cc in
+    (ap (λ (y : Model). some (y .server)) m, ap (λ (y : Model). some (y .view)) m, ap (λ (y : Model). some (y .log)) m)
+
+-- a sound model is stored in buffers of the right lengths, and read from them again
+pub model-stored : (g : Geometry) (x : Model) → Sound g x → Holds g (encodeModel g x) x
+unfolding lengthsFit serverFits decodeModel
+model-stored g x s =
+    let n = objects-few g (s .range) in
+    let b = blocks-few g (s .range) in
+    let ds = StoredLaws.decode-encode (g .objects) (g .blocks) (x .server) n b (s .server) in
+    let dv = StoredLaws.decode-encode (g .objects) (g .blocks) (x .view) n b (s .view) in
+    let dl = LogLaws.decode-encode (g .objects) (g .blocks) (g .capacity) (x .log) (s .log) in
+    record {
+      sound = s;
+      fit =
+          rw (
+            eq-eqb _ _ (StoredLaws.length-good (g .objects) (g .blocks) (x .server) (s .server)),
+            eq-eqb _ _ (StoredLaws.length-good (g .objects) (g .blocks) (x .view) (s .view)),
+            eq-eqb _ _ (LogLaws.length-log (g .objects) (g .blocks) (g .capacity) (x .log) (s .log)),
+          );
+      stored = refl;
+      read = rw (ds, dv, dl);
+    }
+
+-- what buffers store is sound, and they are its bytes
+pub model-read : (g : Geometry) (s : Buffers) (x : Model) → inRange g ≡ true → lengthsFit g s ≡ true → decodeModel g s ≡ some x → Holds g s x
+unfolding decodeModel
+model-read g s x r f e =
+    let j = join-inv _ _ _ x e in
+    let es = StoredLaws.encode-decode (g .objects) (g .blocks) (s .server) (x .server) (j .0) in
+    let ev = StoredLaws.encode-decode (g .objects) (g .blocks) (s .view) (x .view) (j .1) in
+    let el = LogLaws.encode-decode (g .objects) (g .blocks) (g .capacity) (s .log) (x .log) (j .2) in
+    record {
+      sound = record { range = r; server = es .0; view = ev .0; log = el .0 };
+      fit = f;
+      stored = λ i. record { server = es .1 i; view = ev .1 i; log = el .1 i };
+      read = e;
+    }
+
+-- a call on buffers that store a model gives the model's answer and leaves what the model's call leaves, of the right form again
+pub step-holds : (g : Geometry) (c : Call) (s : Buffers) (x : Model) → Holds g s x
+    → (step g c s .gives ≡ outcome g c x .gives) × Holds g (step g c s .leaves) (outcome g c x .leaves)
+unfolding step
+step-holds g c s x h =
+    let is : step g c s ≡ onModel g c s (some x) = rw (h .sound .range, h .fit, h .read) in (
+      ap (λ (y : Result). y .gives) is,
+      subst (λ (y : Buffers). Holds g y (outcome g c x .leaves)) (sym (ap (λ (y : Result). y .leaves) is)) (model-stored g (outcome g c x .leaves) (call-sound g c x (h .sound))),
+    )
+
+-- an accepted mount leaves buffers that store the server volume twice and an empty log
+pub mount-holds : (g : Geometry) (s : Buffers) → mount g s .gives .returned ≡ 0 → (v : Volume) × Holds g (mount g s .leaves) (model v v emptyLog)
+unfolding mount
+mount-holds g s e = go (inRange g) (lengthsFit g s) (decodeVolume (g .objects) (g .blocks) (s .server)) refl refl refl e
+  where
+    after : Result
+    after =
+        record {
+          gives = record { returned = 0; results = []; buffer = [] };
+          leaves = record { server = s .server; view = s .server; log = encodeLog (g .capacity) emptyLog };
+        }
+
+    refusal : ℕ → Result
+    refusal n = record { gives = record { returned = n; results = []; buffer = [] }; leaves = s }
+
+    go : (r f : Bool) (d : Option Volume) → inRange g ≡ r → lengthsFit g s ≡ f → decodeVolume (g .objects) (g .blocks) (s .server) ≡ d
+        → cond (r && f) (cond (isSome d) after (refusal 2)) (refusal 1) .gives .returned ≡ 0
+        → (v : Volume) × Holds g (cond (r && f) (cond (isSome d) after (refusal 2)) (refusal 1) .leaves) (model v v emptyLog)
+    go true true (some v) hr hf hd k =
+        let d = StoredLaws.encode-decode (g .objects) (g .blocks) (s .server) v hd in
+        let sound : Sound g (model v v emptyLog) = record { range = hr; server = d .0; view = d .0; log = empty-good (g .objects) (g .blocks) (g .capacity) } in
+        (v, subst (λ (y : Buffers). Holds g y (model v v emptyLog)) (λ i. record { server = d .1 i; view = d .1 i; log = encodeLog (g .capacity) emptyLog }) (model-stored g (model v v emptyLog) sound))
+    go true true none hr hf hd k = let z : _≡_ {A = ℕ} 0 1 = cc in absurd (omega arith)
+    go true false d hr hf hd k = let z : _≡_ {A = ℕ} 0 1 = cc in absurd (omega arith)
+    go false f d hr hf hd k = let z : _≡_ {A = ℕ} 0 1 = cc in absurd (omega arith)

@@ -1,0 +1,14 @@
+pub mod Entry
+pub mod UsageCases
+pub mod Volume
+pub mod Form
+pub mod Stored
+pub mod Apply
+pub mod FormLaws
+pub mod EntryLaws
+pub mod StoredLaws
+pub mod ClimbLaws
+pub mod SearchLaws
+pub mod ChangeLaws
+pub mod ApplyLaws
+pub mod LocalLaws
