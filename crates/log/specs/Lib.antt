@@ -12,3 +12,7 @@ pub mod SlotLaws
 pub mod StoredLaws
 pub mod ProgramLaws
 pub mod ChangeLaws
+pub mod SwapLaws
+pub mod PartitionLaws
+pub mod LossLaws
+pub mod ChainLaws

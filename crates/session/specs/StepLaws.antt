@@ -86,7 +86,7 @@ step-holds g c s x h =
     )
 
 -- an accepted mount leaves buffers that store the server volume twice and an empty log
-pub mount-holds : (g : Geometry) (s : Buffers) → mount g s .gives .returned ≡ 0 → (v : Volume) × Holds g (mount g s .leaves) (model v v emptyLog)
+pub mount-holds : (g : Geometry) (s : Buffers) → mount g s .gives .returned ≡ 0 → (v : Volume) × (decodeVolume (g .objects) (g .blocks) (s .server) ≡ some v) × Holds g (mount g s .leaves) (model v v emptyLog)
 unfolding mount
 mount-holds g s e = go (inRange g) (lengthsFit g s) (decodeVolume (g .objects) (g .blocks) (s .server)) refl refl refl e
   where
@@ -102,11 +102,11 @@ mount-holds g s e = go (inRange g) (lengthsFit g s) (decodeVolume (g .objects) (
 
     go : (r f : Bool) (d : Option Volume) → inRange g ≡ r → lengthsFit g s ≡ f → decodeVolume (g .objects) (g .blocks) (s .server) ≡ d
         → cond (r && f) (cond (isSome d) after (refusal 2)) (refusal 1) .gives .returned ≡ 0
-        → (v : Volume) × Holds g (cond (r && f) (cond (isSome d) after (refusal 2)) (refusal 1) .leaves) (model v v emptyLog)
+        → (v : Volume) × (decodeVolume (g .objects) (g .blocks) (s .server) ≡ some v) × Holds g (cond (r && f) (cond (isSome d) after (refusal 2)) (refusal 1) .leaves) (model v v emptyLog)
     go true true (some v) hr hf hd k =
         let d = StoredLaws.encode-decode (g .objects) (g .blocks) (s .server) v hd in
         let sound : Sound g (model v v emptyLog) = record { range = hr; server = d .0; view = d .0; log = empty-good (g .objects) (g .blocks) (g .capacity) } in
-        (v, subst (λ (y : Buffers). Holds g y (model v v emptyLog)) (λ i. record { server = d .1 i; view = d .1 i; log = encodeLog (g .capacity) emptyLog }) (model-stored g (model v v emptyLog) sound))
+        (v, hd, subst (λ (y : Buffers). Holds g y (model v v emptyLog)) (λ i. record { server = d .1 i; view = d .1 i; log = encodeLog (g .capacity) emptyLog }) (model-stored g (model v v emptyLog) sound))
     go true true none hr hf hd k = let z : _≡_ {A = ℕ} 0 1 = cc in absurd (omega arith)
     go true false d hr hf hd k = let z : _≡_ {A = ℕ} 0 1 = cc in absurd (omega arith)
     go false f d hr hf hd k = let z : _≡_ {A = ℕ} 0 1 = cc in absurd (omega arith)

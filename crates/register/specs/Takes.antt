@@ -1,0 +1,43 @@
+-- What programs fetch of their losses over a list of calls, told from the calls' arguments and answers.
+use Prim.Native.Nat.{ℕ}
+use mathlib.Core.Path.{_≡_}
+use mathlib.Core.List.{List, [], _∷_, _++_, List·Memᴰ}
+use mathlib.Core.Bool.{Bool, _&&_, cond}
+use lib.ListN.{take, getD}
+use lib.Dec.{eqb}
+use Rattle.session.specs.Call.{Call, lookup, list, stat, read, createFile, makeDirectory, remove, rename, write, setLength, forder, push, fsync, cut, take as takeLoss, renew, Answer}
+use Rattle.register.specs.Register.{Acknowledged, isLost}
+
+-- a lost operation of a program
+abbrev pub lostBy : ℕ → Acknowledged → Bool
+lostBy p a = isLost a && eqb (a .loss .program) p
+
+-- what a call wrote of a program's losses, told from its arguments and its answer: the bytes that its take reports
+abbrev pub wrote : ℕ → Call → Answer → List (List ℕ)
+wrote p (lookup q s) a = []
+wrote p (list q o s) a = []
+wrote p (stat q o) a = []
+wrote p (read q o f s) a = []
+wrote p (createFile q d n o) a = []
+wrote p (makeDirectory q d n o) a = []
+wrote p (remove q d n) a = []
+wrote p (rename q d n e k) a = []
+wrote p (write q o f s) a = []
+wrote p (setLength q o f) a = []
+wrote p (forder q s) a = []
+wrote p (push q) a = []
+wrote p (fsync q o k) a = []
+wrote p cut a = []
+wrote p (takeLoss q own) a = cond (eqb (a .returned) 0 && eqb q p) (take (getD (a .results) 0 0) (a .buffer) ∷ []) []
+wrote p (renew q) a = []
+
+-- what a program's accepted takes wrote over a list of calls, in order
+unfoldable pub fetched : ℕ → List Call → List Answer → List (List ℕ)
+fetched p [] l = []
+fetched p (c ∷ cs) [] = []
+fetched p (c ∷ cs) (a ∷ l) = wrote p c a ++ fetched p cs l
+
+-- each differs from all behind it
+abbrev pub Distinct : List (List ℕ) → Type 0
+Distinct [] = Unit {0}
+Distinct (b ∷ l) = ((c : List ℕ) → List·Memᴰ c l → b ≡ c → ⊥) × Distinct l
