@@ -71,3 +71,8 @@ renewed p l = logOf (l .next) (without (l .marks) p) (l .slots)
 -- the waiting operation of a sequence number
 unfoldable pub waitingAt : ℕ → Log → Option Record
 waitingAt n l = earliest (isSequence n) (l .slots)
+
+-- a program's losses, in order
+unfoldable pub lossesOf : ℕ → List Slot → List Record
+lossesOf p [] = []
+lossesOf p (s ∷ l) = cond (isLossOf p s) (s .loss ∷ lossesOf p l) (lossesOf p l)

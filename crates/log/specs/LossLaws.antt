@@ -12,14 +12,9 @@ use Rattle.log.specs.Programs.{with}
 use Rattle.log.specs.Slot.{waiting, stateNumber, Slot, slotOf, Log, isWaiting, sequenceOf}
 use Rattle.log.specs.Order.{shares}
 use Rattle.log.specs.Depend.{reach, noted}
-use Rattle.log.specs.Change.{waitingOf, issueOne, removed, isSequence, discarded, isLossOf, earliest}
+use Rattle.log.specs.Change.{waitingOf, issueOne, removed, isSequence, discarded, isLossOf, earliest, lossesOf}
 use Rattle.log.specs.ChangeLaws.{Ordered, discarded-lost}
 use Rattle.log.specs.PartitionLaws.{picked}
-
--- a program's losses, in order
-unfoldable pub lossesOf : ℕ → List Slot → List Record
-lossesOf p [] = []
-lossesOf p (s ∷ l) = cond (isLossOf p s) (s .loss ∷ lossesOf p l) (lossesOf p l)
 
 -- a record is of a program
 abbrev pub isOf : ℕ → Record → Bool

@@ -39,7 +39,7 @@ use Rattle.register.specs.TimeLaws.{Timed}
 use Rattle.register.specs.RunLaws.{Good, call-good}
 use Rattle.register.specs.MountLaws.{opened-good, mounted-holds}
 use Rattle.register.specs.MarkLaws.{mounted-told}
-use Rattle.register.specs.FetchRun.{play-taken, taken-all}
+use Rattle.register.specs.FetchRun.{play-taken, taken-all, all-taken, play-recorded}
 use Rattle.register.specs.FetchOnce.{fetched-once}
 use Rattle.register.specs.CouldLaws.{could, closed-sendable}
 use Rattle.register.specs.CoverLaws.{fsync-covered}
@@ -153,14 +153,20 @@ demand g s v m cs =
           (turn-split (r .mounted) (picked isSent (r .operations)) (sent-turn g r (p .state) k) before after rec (sym (chosen-picked isSent (r .operations)) ∙ e));
       undamaged = p .undamaged;
       viewed = ap (λ (y : Buffers). y .view) (sym (p .holds .stored)) ∙ ap (encodeVolume (g .blocks)) (sym (view-replayed g r (p .state) k));
+      stored = (p .state, p .holds .read);
+      recorded = λ x e. (
+        ap (λ (y : Model). waitingOf (y .log .slots)) (sym (read-once g (play g s v cs .leaves) (p .state) x (p .holds) e)) ∙ k .waiting ∙ sym (chosen-picked isWaiting (r .operations)),
+        λ q. play-recorded g s v m cs x e q,
+      );
       closed = λ a c ma mc sc pr. precedes-sent r (p .good .timed) pr ma mc sc;
       covered = λ before after q o n e ok a c.
           let b = mounted-played g s v m before in
           subst (λ (l : List Call). SentAt (play g s v l .register) (a .loss .sequence)) (sym e)
           (fsync-covered g before after (mount g s .leaves) (opened v) q o n (numbers-rise 1 (play g s v before .register .operations) (b .good .kept .numbers)) ok a c);
-      possible = λ set c. could g s v m cs set (closed-sendable r set (c .sent) (c .lost) (λ a b ma mb wa wb pr e. c .closed a b ma mb pr e));
+      couldHaveBeenSent = λ set c. could g s v m cs set (closed-sendable r set (c .sent) (c .lost) (λ a b ma mb wa wb pr e. c .closed a b ma mb pr e));
       marked = λ x e q lt. subst (λ (y : Model). (holds (y .log .marks) q ≡ true) ↔ Marked r q) (read-once g (play g s v cs .leaves) (told .state) x (told .stored) e) (told .known .depended .marks q lt);
-      fetchedInOrder = λ q. let t = play-taken g s v m cs q in (map encode (t .left), t .prefix);
+      fetched = λ q. let t = play-taken g s v m cs q in (map encode (t .left), t .prefix);
       fetchedOnce = λ q. fetched-once g s v m cs q;
       fetchedAll = λ q own e. taken-all g s v m cs q own e;
+      fetchedWhole = λ q le. all-taken q cs (play g s v cs) (play-taken g s v m cs q) le;
     }

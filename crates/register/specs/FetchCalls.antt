@@ -15,12 +15,12 @@ use Rattle.volume.specs.Apply.{applies, apply}
 use Rattle.log.specs.Slot.{Slot, Log, wellFormed}
 use Rattle.log.specs.SlotLaws.{formed-inv}
 use Rattle.log.specs.Change
-use Rattle.log.specs.Change.{note, issue, discard, discarded, waitingOf, waitingAt, isLossOf, earliest, taken}
+use Rattle.log.specs.Change.{note, issue, discard, discarded, waitingOf, waitingAt, isLossOf, earliest, taken, lossesOf}
 use Rattle.log.specs.ChangeLaws.{Ordered, rising-inv, note-good, noted-waiting}
 use Rattle.log.specs.Order.{directWaits, needed}
 use Rattle.log.specs.OrderLaws.{Rising, needed-in}
 use Rattle.log.specs.PartitionLaws.{picked}
-use Rattle.log.specs.LossLaws.{lossesOf, noted-lost, issueOne-lost, sent-lost}
+use Rattle.log.specs.LossLaws.{noted-lost, issueOne-lost, sent-lost}
 use Rattle.session.specs.Call.{Geometry, Call, lookup, list, stat, read, createFile, makeDirectory, remove, rename, write, setLength, forder, push, fsync, cut, take as takeLoss, renew, Answer, answer}
 use Rattle.session.specs.Refusal.{Row, row, firstOf}
 use Rattle.session.specs.RefusalLaws.{passed}

@@ -10,11 +10,11 @@ use lib.Dec.{eqb}
 use borrow.Author.Tests.{eqb-true, eqb-false}
 use Rattle.records.specs.Operation.{Record}
 use Rattle.log.specs.Slot.{Slot}
-use Rattle.log.specs.Change.{waitingOf, removed, discarded, isLossOf, earliest}
+use Rattle.log.specs.Change.{waitingOf, removed, discarded, isLossOf, earliest, lossesOf}
 use Rattle.log.specs.ChangeLaws.{Ordered}
 use Rattle.log.specs.OrderLaws.{Rising, or-cases}
 use Rattle.log.specs.PartitionLaws.{picked}
-use Rattle.log.specs.LossLaws.{lossesOf, isOf, taken-own, taken-other, discard-lost}
+use Rattle.log.specs.LossLaws.{isOf, taken-own, taken-other, discard-lost}
 use Rattle.register.specs.Register.{Acknowledged, Fate, waiting, sent, lost, isWaiting, isSent, isLost, chosen, sending, losing, numbered, fated}
 use Rattle.register.specs.Kept.{lossOf}
 use Rattle.register.specs.PickLaws.{map-in}

@@ -17,7 +17,7 @@ use Rattle.register.specs.Register.{Acknowledged, isLost, chosen}
 use Rattle.register.specs.Run.{Run, Mounted, play}
 use Rattle.register.specs.KeptLaws.{numbers-rise}
 use Rattle.register.specs.TimeLaws.{Among}
-use Rattle.register.specs.Takes.{lostBy, fetched, Distinct}
+use Rattle.register.specs.Takes.{lostBy, fetchedBy, Distinct}
 use Rattle.register.specs.FetchLaws.{chosen-in}
 use Rattle.register.specs.FetchRun.{play-led, Taken, play-taken}
 use Rattle.register.specs.CouldLaws.{chosen-rising}
@@ -46,7 +46,7 @@ encodes-distinct (r ∷ l) o h = (
 )
 
 -- what a program's accepted takes wrote has none twice
-pub fetched-once : (g : Geometry) (s : Buffers) (v : Volume) → Mounted g s v → (cs : List Call) (p : ℕ) → Distinct (fetched p cs (play g s v cs .answers))
+pub fetched-once : (g : Geometry) (s : Buffers) (v : Volume) → Mounted g s v → (cs : List Call) (p : ℕ) → Distinct (fetchedBy p cs (play g s v cs .answers))
 fetched-once g s v m cs p =
     let led = play-led g s v m cs in
     let t = play-taken g s v m cs p in
@@ -54,7 +54,7 @@ fetched-once g s v m cs p =
     let all : Distinct (map encode (chosen (lostBy p) ops)) =
     encodes-distinct (chosen (lostBy p) ops) (chosen-rising (lostBy p) ops (numbers-rise 1 ops (led .good .kept .numbers)))
     (λ r n. let c = chosen-in (lostBy p) ops r n in subst (λ (z : Record). valid z ≡ true) (c .3) (led .good .kept .fit (c .0) (c .1) .0)) in
-    distinct-prefix (fetched p cs (play g s v cs .answers)) (map encode (t .left)) (subst Distinct (t .prefix) all)
+    distinct-prefix (fetchedBy p cs (play g s v cs .answers)) (map encode (t .left)) (subst Distinct (t .prefix) all)
 
 -- an operation whose record bytes are, lost and of a program
 pub record LossOf (p : ℕ) (ops : List Acknowledged) (b : List ℕ) : Type 0 where
@@ -65,7 +65,7 @@ pub record LossOf (p : ℕ) (ops : List Acknowledged) (b : List ℕ) : Type 0 wh
   pub bytes : b ≡ encode (who .loss)
 
 -- and each is the record of a lost operation of its own
-pub fetched-own : (p : ℕ) (cs : List Call) (r : Run) → Taken p cs r → (b : List ℕ) → List·Memᴰ b (fetched p cs (r .answers)) → LossOf p (r .register .operations) b
+pub fetched-own : (p : ℕ) (cs : List Call) (r : Run) → Taken p cs r → (b : List ℕ) → List·Memᴰ b (fetchedBy p cs (r .answers)) → LossOf p (r .register .operations) b
 fetched-own p cs r t b m =
     let ops = r .register .operations in
     let k = encoded-in (chosen (lostBy p) ops) b (subst (λ (l : List (List ℕ)). List·Memᴰ b l) (sym (t .prefix)) (Memᴰ·append-left (map encode (t .left)) m)) in

@@ -15,8 +15,7 @@ use Rattle.volume.specs.Stored.{encodeVolume, decodeVolume}
 use Rattle.volume.specs.StoredLaws
 use Rattle.log.specs.Slot.{Slot, emptyLog}
 use Rattle.log.specs.Stored.{encodeLog}
-use Rattle.log.specs.Change.{isLossOf, earliest, taken, waitingOf}
-use Rattle.log.specs.LossLaws.{lossesOf}
+use Rattle.log.specs.Change.{isLossOf, earliest, taken, waitingOf, lossesOf}
 use Rattle.log.specs.PartitionLaws.{applyAll, picked}
 use Rattle.session.specs.Call.{Geometry, Buffers, Call, lookup, list, stat, read, createFile, makeDirectory, remove, rename, write, setLength, forder, push, fsync, cut, take as takeLoss, renew, Answer, answer, inRange, lengthsFit}
 use Rattle.session.specs.Refusal.{Row, row, firstOf}
@@ -24,14 +23,14 @@ use Rattle.session.specs.RefusalLaws.{passed}
 use Rattle.session.specs.Model.{Model, model, Outcome, refusedWith, unless, badProgram}
 use Rattle.session.specs.Question.{filled}
 use Rattle.session.specs.Send.{isNone, lossBytes, takeOf}
-use Rattle.session.specs.Step.{Result, step, mount, outcome, isSome}
+use Rattle.session.specs.Step.{Result, step, mount, outcome, decodeModel}
 use Rattle.session.specs.StepLaws.{Holds, step-holds, mount-holds}
 use Rattle.session.specs.EditLaws.{Sound, objects-few, blocks-few}
 use Rattle.register.specs.Register.{Register, opened, feed, chosen}
 use Rattle.register.specs.Run.{Run, run, Mounted, play}
 use Rattle.register.specs.RunLaws.{Good, call-good}
 use Rattle.register.specs.MountLaws.{opened-good, mounted-holds}
-use Rattle.register.specs.Takes.{lostBy, wrote, fetched}
+use Rattle.register.specs.Takes.{lostBy, wrote, fetchedBy}
 use Rattle.register.specs.Fetched.{Fetched}
 use Rattle.register.specs.FetchCalls.{oneOrNone, gains, call-fetched}
 
@@ -91,7 +90,7 @@ pub record Led (g : Geometry) (cs : List Call) (s : Buffers) (r : Register) (don
   pub good : Good g (run g cs s r .register) last
   pub all : ℕ → List Record
   pub kept : Fetched (run g cs s r .register .operations) (last .log .slots) all
-  pub told : (p : ℕ) → map encode (all p) ≡ map encode (done p) ++ fetched p cs (run g cs s r .answers)
+  pub told : (p : ℕ) → map encode (all p) ≡ map encode (done p) ++ fetchedBy p cs (run g cs s r .answers)
 
 encode-append : (u v : List Record) → map encode (u ++ v) ≡ map encode u ++ map encode v
 encode-append [] v = refl
@@ -99,7 +98,7 @@ encode-append (a ∷ u) v = ap (λ (l : List (List ℕ)). encode a ∷ l) (encod
 
 pub run-led : (g : Geometry) (cs : List Call) (s : Buffers) (r : Register) (x : Model) → Holds g s x → Good g r x → (done : ℕ → List Record)
     → Fetched (r .operations) (x .log .slots) done → Led g cs s r done
-unfolding run fetched
+unfolding run fetchedBy
 run-led g [] s r x h k done f = record { last = x; holds = h; good = k; all = done; kept = f; told = λ p. sym (append-nil (map encode (done p))) }
 run-led g (c ∷ cs) s r x h k done f =
     let st = step-holds g c s x h in
@@ -117,9 +116,9 @@ run-led g (c ∷ cs) s r x h k done f =
       kept = on .kept;
       told = λ p.
           on .told p
-          ∙ ap (λ (l : List (List ℕ)). l ++ fetched p cs (run g cs (step g c s .leaves) r₁ .answers))
+          ∙ ap (λ (l : List (List ℕ)). l ++ fetchedBy p cs (run g cs (step g c s .leaves) r₁ .answers))
           (encode-append (done p) (gains c x p) ∙ ap (λ (l : List (List ℕ)). map encode (done p) ++ l) (sym (wrote-gains g c x p) ∙ ap (wrote p c) (sym (st .0))))
-          ∙ append-assoc (map encode (done p)) (wrote p c (step g c s .gives)) (fetched p cs (run g cs (step g c s .leaves) r₁ .answers));
+          ∙ append-assoc (map encode (done p)) (wrote p c (step g c s .gives)) (fetchedBy p cs (run g cs (step g c s .leaves) r₁ .answers));
     }
 
 pub opened-fetched : Fetched [] [] (λ p. [])
@@ -131,37 +130,38 @@ play-led g s v m cs =
     let h = mounted-holds g s v m in
     run-led g cs (mount g s .leaves) (opened v) (model v v emptyLog) h (opened-good g v (h .sound)) (λ p. []) opened-fetched
 
+-- a program's lost operations' records are those that its takes wrote, and then those of its losses in the log
+pub led-recorded : (g : Geometry) (s : Buffers) (v : Volume) (m : Mounted g s v) (cs : List Call) (p : ℕ)
+    → map encode (chosen (lostBy p) (play g s v cs .register .operations)) ≡ fetchedBy p cs (play g s v cs .answers) ++ map encode (lossesOf p (play-led g s v m cs .last .log .slots))
+led-recorded g s v m cs p =
+    let l = play-led g s v m cs in
+    ap (map encode) (l .kept .losses p) ∙ encode-append (l .all p) (lossesOf p (l .last .log .slots)) ∙ ap (λ (x : List (List ℕ)). x ++ map encode (lossesOf p (l .last .log .slots))) (l .told p)
+
+pub play-recorded : (g : Geometry) (s : Buffers) (v : Volume) → Mounted g s v → (cs : List Call) (x : Model) → decodeModel g (play g s v cs .leaves) ≡ some x → (p : ℕ)
+    → map encode (chosen (lostBy p) (play g s v cs .register .operations)) ≡ fetchedBy p cs (play g s v cs .answers) ++ map encode (lossesOf p (x .log .slots))
+play-recorded g s v m cs x e p =
+    let last = play-led g s v m cs .last in
+    let both : some last ≡ some x = sym (play-led g s v m cs .holds .read) ∙ e in
+    let same : last ≡ x = cc in
+    subst (λ (y : Model). map encode (chosen (lostBy p) (play g s v cs .register .operations)) ≡ fetchedBy p cs (play g s v cs .answers) ++ map encode (lossesOf p (y .log .slots))) same (led-recorded g s v m cs p)
+
 -- what is left for a program to take
 pub record Taken (p : ℕ) (cs : List Call) (r : Run) : Type 0 where
   pub left : List Record
-  pub prefix : map encode (chosen (lostBy p) (r .register .operations)) ≡ fetched p cs (r .answers) ++ map encode left
+  pub prefix : map encode (chosen (lostBy p) (r .register .operations)) ≡ fetchedBy p cs (r .answers) ++ map encode left
 
 -- what a program's accepted takes wrote is, in order, a prefix of its lost operations' records in issue order
 pub play-taken : (g : Geometry) (s : Buffers) (v : Volume) → Mounted g s v → (cs : List Call) (p : ℕ) → Taken p cs (play g s v cs)
-play-taken g s v m cs p =
-    let l = play-led g s v m cs in
-    record {
-      left = lossesOf p (l .last .log .slots);
-      prefix =
-          ap (map encode) (l .kept .losses p) ∙ encode-append (l .all p) (lossesOf p (l .last .log .slots))
-          ∙ ap (λ (x : List (List ℕ)). x ++ map encode (lossesOf p (l .last .log .slots))) (l .told p);
-    }
+play-taken g s v m cs p = record { left = lossesOf p (play-led g s v m cs .last .log .slots); prefix = led-recorded g s v m cs p }
 
 whole-prefix : (u v w : List (List ℕ)) → u ≡ v ++ w → length u ≤ length v → u ≡ v
 whole-prefix u v [] e le = e ∙ append-nil v
 whole-prefix u v (a ∷ w) e le = let z = ap length e ∙ length-append v (a ∷ w) in absurd (omega arith)
 
-length-encode : (l : List Record) → length (map encode l) ≡ length l
-length-encode [] = refl
-length-encode (a ∷ l) = ap suc (length-encode l)
-
 -- with as many takes as losses, it is all of them
-pub all-taken : (p : ℕ) (cs : List Call) (r : Run) → Taken p cs r → length (chosen (lostBy p) (r .register .operations)) ≤ length (fetched p cs (r .answers))
-    → fetched p cs (r .answers) ≡ map encode (chosen (lostBy p) (r .register .operations))
-all-taken p cs r t le =
-    sym
-    (whole-prefix (map encode (chosen (lostBy p) (r .register .operations))) (fetched p cs (r .answers)) (map encode (t .left)) (t .prefix)
-    (let z = length-encode (chosen (lostBy p) (r .register .operations)) in omega arith))
+pub all-taken : (p : ℕ) (cs : List Call) (r : Run) → Taken p cs r → length (map encode (chosen (lostBy p) (r .register .operations))) ≤ length (fetchedBy p cs (r .answers))
+    → fetchedBy p cs (r .answers) ≡ map encode (chosen (lostBy p) (r .register .operations))
+all-taken p cs r t le = sym (whole-prefix (map encode (chosen (lostBy p) (r .register .operations))) (fetchedBy p cs (r .answers)) (map encode (t .left)) (t .prefix) le)
 
 none-left : (p : ℕ) (l : List Slot) → earliest (isLossOf p) l ≡ none → lossesOf p l ≡ []
 unfolding earliest lossesOf
@@ -191,7 +191,7 @@ refused-none p own x = go (earliest (isLossOf p) (x .log .slots)) (not (ltb p 32
 
 -- all: where a take is refused with 16, what was fetched is all
 pub taken-all : (g : Geometry) (s : Buffers) (v : Volume) → Mounted g s v → (cs : List Call) (p : ℕ) (own : List ℕ) → step g (takeLoss p own) (play g s v cs .leaves) .gives .returned ≡ 16
-    → fetched p cs (play g s v cs .answers) ≡ map encode (chosen (lostBy p) (play g s v cs .register .operations))
+    → fetchedBy p cs (play g s v cs .answers) ≡ map encode (chosen (lostBy p) (play g s v cs .register .operations))
 taken-all g s v m cs p own e =
     let l = play-led g s v m cs in
     let st = step-holds g (takeLoss p own) (play g s v cs .leaves) (l .last) (l .holds) .0 in

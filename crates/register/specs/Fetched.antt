@@ -4,8 +4,8 @@ use mathlib.Core.Path.{_≡_}
 use mathlib.Core.List.{List, [], _∷_, _++_}
 use mathlib.Core.Bool.{Bool, true, false, _&&_}
 use Rattle.records.specs.Operation.{Record}
+use Rattle.log.specs.Change.{lossesOf}
 use Rattle.log.specs.Slot.{Slot}
-use Rattle.log.specs.LossLaws.{lossesOf}
 use Rattle.register.specs.Register.{Acknowledged, isWaiting, isLost, chosen}
 use Rattle.register.specs.TimeLaws.{Among}
 use Rattle.register.specs.Takes.{lostBy}

@@ -6,12 +6,13 @@ use mathlib.Core.Path.{_≡_, refl, sym, ap, _∙_, subst}
 use mathlib.Core.Logic.{⊎-elim}
 use mathlib.Core.List.{List, [], _∷_, _++_, map, List·Memᴰ, List·Memᴰ·head, List·Memᴰ·tail, List·Memᴰ·not-nil, List·Memᴰ·cases-cons}
 use mathlib.Core.Bool.{Bool, true, false, not, _&&_, _||_, cond}
+use mathlib.Core.Option.{some}
 use lib.ListN.{take, getD}
 use lib.Dec.{eqb}
 use borrow.Author.Tests.{eq-eqb, ne-eqb, eqb-true, eqb-false}
 use Rattle.records.specs.Operation.{Record}
 use Rattle.volume.specs.Volume.{Volume}
-use Rattle.volume.specs.Stored.{encodeVolume}
+use Rattle.volume.specs.Stored.{encodeVolume, decodeVolume}
 use Rattle.log.specs.OrderLaws.{Rising, or-cases, or-left, or-right}
 use Rattle.log.specs.PartitionLaws.{picked, picked-yes, picked-no}
 use Rattle.session.specs.Call.{Geometry, Buffers, Call, fsync, cut, Answer}
@@ -22,7 +23,7 @@ use Rattle.session.specs.StepLaws.{step-holds}
 use Rattle.register.specs.Replay.{replay}
 use Rattle.register.specs.Register.{Register, opened, feed, Fate, waiting, sent, lost, Acknowledged, isWaiting, isSent, isLost, chosen, numbered, losing, fated, accepted, deedOf, cuts, fsyncRefused, viewOf, after, touch, lostIn, sentIn, neededFor, syncs, turnedDown}
 use Rattle.register.specs.Run.{Run, run, Mounted, play}
-use Rattle.register.specs.Claim.{Demand, Ends, byCut, byFsync, SameLostSameSent}
+use Rattle.register.specs.Claim.{Demand, ClosedSet, Ends, byCut, byFsync, SameLostSameSent}
 use Rattle.register.specs.Kept.{lossOf}
 use Rattle.register.specs.KeptLaws.{numbers-rise}
 use Rattle.register.specs.SendLaws.{rising-unique}
@@ -128,12 +129,45 @@ ended-settled g s v m cs (byFsync ds p o k e n) =
     let r = play g s v ds .register in
     subst Settled (sym (ap (λ (l : List Call). play g s v l .register .operations) e ∙ ap (λ (y : Register). y .operations) (run-last g ds (fsync p o k) (mount g s .leaves) (opened v) ∙ feed-refused (fsync p o k) (step g (fsync p o k) (play g s v ds .leaves) .gives) r n))) (lost-settled (r .clock) (sentIn r (take k (neededFor o r))))
 
--- two lists of calls after mounts of the same volume, each ended by a broken link, with the same operations acknowledged
-pub determined : (g h : Geometry) (s t : Buffers) (v : Volume) → g .blocks ≡ h .blocks → Mounted g s v → Mounted h t v → (cs ds : List Call) → Ends g s v cs → Ends h t v ds
+-- two lists of calls after mounts of one volume, each ended by a broken link, with the same operations acknowledged
+determined-one : (g h : Geometry) (s t : Buffers) (v : Volume) → g .blocks ≡ h .blocks → Mounted g s v → Mounted h t v → (cs ds : List Call) → Ends g s v cs → Ends h t v ds
     → map lossOf (play g s v cs .register .operations) ≡ map lossOf (play h t v ds .register .operations) → SameLostSameSent (play g s v cs) (play h t v ds)
-determined g h s t v b m w cs ds ea eb same =
+determined-one g h s t v b m w cs ds ea eb same =
     let pa = mounted-played g s v m cs in
     let pb = mounted-played h t v w ds in
     same-lost-same-sent (play g s v cs) (play h t v ds) v (g .blocks) (numbers-rise 1 (play g s v cs .register .operations) (pa .good .kept .numbers)) (numbers-rise 1 (play h t v ds .register .operations) (pb .good .kept .numbers))
     (ended-settled g s v m cs ea) (ended-settled h t v w ds eb) same (demand g s v m cs .replayed)
     (demand h t v w ds .replayed ∙ ap (λ (z : ℕ). encodeVolume z (replay v (chosen isSent (play h t v ds .register .operations)))) (sym b))
+
+-- "Same mounted volume: equal bytes, n and b"
+same-mounted : (g h : Geometry) (s t : Buffers) (v w : Volume) → g .objects ≡ h .objects → g .blocks ≡ h .blocks → s .server ≡ t .server → Mounted g s v → Mounted h t w → v ≡ w
+same-mounted g h s t v w n b bytes m k = let both : some v ≡ some w = sym (m .server) ∙ (λ i. decodeVolume (n i) (b i) (bytes i)) ∙ k .server in cc
+
+-- two lists of calls after mounts of the same volume, each ended by a broken link, with the same operations acknowledged; the logs may differ in size
+pub determined : (g h : Geometry) (s t : Buffers) (v w : Volume) → g .objects ≡ h .objects → g .blocks ≡ h .blocks → s .server ≡ t .server → Mounted g s v → Mounted h t w
+    → (cs ds : List Call) → Ends g s v cs → Ends h t w ds → map lossOf (play g s v cs .register .operations) ≡ map lossOf (play h t w ds .register .operations)
+    → SameLostSameSent (play g s v cs) (play h t w ds)
+determined g h s t v w n b bytes m k cs ds ea =
+    subst (λ (z : Volume). Ends h t z ds → map lossOf (play g s v cs .register .operations) ≡ map lossOf (play h t z ds .register .operations) → SameLostSameSent (play g s v cs) (play h t z ds))
+    (same-mounted g h s t v w n b bytes m k)
+    (λ eb same. determined-one g h s t v b m (subst (λ (z : Volume). Mounted h t z) (sym (same-mounted g h s t v w n b bytes m k)) k) cs ds ea eb same)
+
+-- a lost operation was not sent
+lost-unsent : (a : Acknowledged) → isLost a ≡ true → isSent a ≡ false
+lost-unsent a e = go (isWaiting a) (isSent a) e
+  where
+    go : (s t : Bool) → not (s || t) ≡ true → t ≡ false
+    go s false h = refl
+    go false true h = let z : _≡_ {A = ℕ} 0 1 = cc in absurd (omega arith)
+    go true true h = let z : _≡_ {A = ℕ} 0 1 = cc in absurd (omega arith)
+
+-- after every list, what was sent is itself a closed set
+pub sent-closed : (g : Geometry) (s : Buffers) (v : Volume) → Mounted g s v → (cs : List Call) → ClosedSet (play g s v cs .register) (λ q. numbered q (chosen isSent (play g s v cs .register .operations)))
+sent-closed g s v m cs =
+    let l = play g s v cs .register .operations in
+    let rise = numbers-rise 1 l (mounted-played g s v m cs .good .kept .numbers) in
+    record {
+      sent = λ a n e. numbered-by isSent l rise a n ∙ e;
+      lost = λ a n e. numbered-by isSent l rise a n ∙ lost-unsent a e;
+      closed = λ a b na nb p e. numbered-by isSent l rise a na ∙ demand g s v m cs .closed a b na nb (sym (numbered-by isSent l rise b nb) ∙ e) p;
+    }

@@ -32,10 +32,10 @@ wrote p (takeLoss q own) a = cond (eqb (a .returned) 0 && eqb q p) (take (getD (
 wrote p (renew q) a = []
 
 -- what a program's accepted takes wrote over a list of calls, in order
-unfoldable pub fetched : ℕ → List Call → List Answer → List (List ℕ)
-fetched p [] l = []
-fetched p (c ∷ cs) [] = []
-fetched p (c ∷ cs) (a ∷ l) = wrote p c a ++ fetched p cs l
+unfoldable pub fetchedBy : ℕ → List Call → List Answer → List (List ℕ)
+fetchedBy p [] l = []
+fetchedBy p (c ∷ cs) [] = []
+fetchedBy p (c ∷ cs) (a ∷ l) = wrote p c a ++ fetchedBy p cs l
 
 -- each differs from all behind it
 abbrev pub Distinct : List (List ℕ) → Type 0

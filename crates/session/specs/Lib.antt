@@ -13,3 +13,4 @@ pub mod AcceptLaws
 pub mod SoundLaws
 pub mod StepLaws
 pub mod SendLaws
+pub mod EffectLaws
