@@ -9,7 +9,7 @@ use Rattle.records.specs.Numeral.{bytes, numeral}
 use Rattle.records.specs.Operation.{Record}
 use Rattle.records.specs.Fields.{encode}
 use Rattle.records.specs.Answer.{decodeAt}
-use Rattle.volume.specs.Stored.{padded, sameBytes}
+use Rattle.entry.specs.Stored.{padded, sameBytes}
 use Rattle.log.specs.Slot.{State, waiting, lost, stateNumber, Slot, slotOf, Log, logOf, wellFormed}
 
 -- "m slots of 1,048 bytes"

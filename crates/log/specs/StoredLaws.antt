@@ -13,8 +13,8 @@ use Rattle.records.specs.Operation.{Record}
 use Rattle.records.specs.Fields.{encode, valid}
 use Rattle.records.specs.Answer.{decodeAt}
 use Rattle.records.specs.ExactLaws.{encode-length, decode-encode as record-read}
-use Rattle.volume.specs.Stored.{padded, sameBytes}
-use Rattle.volume.specs.StoredLaws.{same-bytes, bytes-same}
+use Rattle.entry.specs.Stored.{padded, sameBytes}
+use Rattle.entry.specs.EntryLaws.{same-bytes, bytes-same}
 use Rattle.log.specs.Slot.{State, waiting, lost, stateNumber, Slot, slotOf, Log, logOf, goodSlots, wellFormed}
 use Rattle.log.specs.Stored.{slotBytes, logBytes, encodeSlot, encodeSlots, encodeLog, slotFrom, readSlot, readSlots, readLog, decodeLog}
 use Rattle.log.specs.SlotLaws.{slots-inv, formed-inv}

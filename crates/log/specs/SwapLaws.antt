@@ -12,10 +12,11 @@ use lib.Dec.{leb, ltb, eqb}
 use borrow.Author.Tests.{leb-true, ltb-false, eqb-true}
 use Rattle.records.specs.Operation.{Operation, createFile, makeDirectory, remove, rename, overwrite, append, setLength, forder, Record, operands}
 use Rattle.records.specs.Fields.{member, valid, fits}
-use Rattle.volume.specs.Entry.{Entry, free, file, directory, isUsed, isFile, contentsOf, refilled}
+use Rattle.entry.specs.Entry.{Entry, free, file, directory, isUsed, isFile, contentsOf, refilled}
 use Rattle.volume.specs.Volume.{Volume, entryAt}
 use Rattle.volume.specs.Form.{wellFormed}
-use Rattle.volume.specs.Apply.{applies, written, apply}
+use Rattle.entry.specs.Write.{written}
+use Rattle.volume.specs.Apply.{applies, apply}
 use Rattle.volume.specs.SearchLaws.{entry-set-same, used-below}
 use Rattle.volume.specs.ApplyLaws.{written-length, apply-good, apply-length}
 use Rattle.volume.specs.LocalLaws.{Agree, same-volume, member-first, member-next, applies-local, apply-local, apply-elsewhere}

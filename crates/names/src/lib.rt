@@ -3,7 +3,7 @@
 ghost use mathlib.Core.Path.{_≡_};
 ghost use Prim.Native.Nat.{_-_, _≤_};
 ghost use lib.ListN.{length, take, drop};
-ghost use Rattle.names.specs.Name.{permittedByte, allPermitted, isDots, nameTextOf, sameName};
+ghost use Rattle.names.specs.Name.{allPermitted, isDots, nameTextOf, sameName};
 ghost use Rattle.names.specs.Path.{pathTextOf, upToSlash, componentAt};
 
 // "The permitted bytes are a constant table of 256 marks": 1 where the byte may stand in a name.
@@ -280,20 +280,14 @@ pub enum PathText {
     Components,
 }
 
-// Whether a byte may stand in a name.
-pub fn permitted(b: u8) -> bool
-    ensures { λ r. ⌜ r ≡ permittedByte b ⌝ }
-{
-    PERMITTED[b as usize] != 0
-}
-
-// Whether every byte of s may stand in a name.
+// Whether every byte of s may stand in a name. Each use of the constant lays the table out anew, so it is used once.
 fn all_permitted(s: &[u8]) -> bool
     ensures { λ r. ⌜ r ≡ allPermitted (now (s .entry)) ⌝ }
 {
+    let marks = PERMITTED;
     let mut i = 0;
     while i < s.len() {
-        if permitted(s[i]) {
+        if marks[s[i] as usize] != 0 {
             i += 1;
         } else {
             return false;

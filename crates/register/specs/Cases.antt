@@ -14,7 +14,7 @@ use Rattle.records.specs.Operation.{Record, forder as forderOperation, operands
 use Rattle.records.specs.Fields.{member, different, allUpTo, validList, validHead, differing, inBlock}
 use Rattle.records.specs.Reader.{objectsOf, numberAt, partAt, objectAt, offsetAt, nameAt, blockAt, listAt, headOf, headAt, objectsAt, namesAt, rangeAt, tiedAt, recordAt}
 use Rattle.records.specs.Answer.{recordFrom, decodeAt}
-use Rattle.volume.specs.Entry.{usage}
+use Rattle.entry.specs.Entry.{usage}
 use Rattle.volume.specs.Volume.{every, lowest, search, hasChildren, formatted}
 use Rattle.volume.specs.Apply.{applies, apply}
 use Rattle.log.specs.Programs.{with, joined}
@@ -27,7 +27,8 @@ use Rattle.log.specs.Change.{waitingOf, issueOne, issue, removed, dependentsOf,
 use Rattle.session.specs.Call.{Geometry, Call, lookup, stat, createFile, makeDirectory, rename, write, setLength, push, fsync}
 use Rattle.session.specs.Refusal.{firstOf}
 use Rattle.session.specs.Model.{Model, model, applyAll}
-use Rattle.session.specs.Question.{walk, lookupOf, statOf}
+use Rattle.questions.specs.Way.{walk}
+use Rattle.session.specs.Question.{lookupOf, statOf}
 use Rattle.session.specs.Edit.{makeOf, renameOf, writeOf, setLengthOf}
 use Rattle.session.specs.Send.{pushOf, sendAll, fsyncOf}
 use Rattle.session.specs.Step.{outcome}

@@ -25,7 +25,9 @@ use Rattle.session.specs.Call.{Geometry, Call, lookup, list, stat, read, create
 use Rattle.session.specs.Refusal.{Row, row, firstOf}
 use Rattle.session.specs.RefusalLaws.{passed}
 use Rattle.session.specs.Model.{Model, model, Outcome, refusedWith, unless, badProgram, marked, outside, isFree, issued}
-use Rattle.session.specs.Question.{Way, found, refused, wayOf, followed, filled, lookupOf, listOf, statOf, readOf}
+use Rattle.questions.specs.Way.{Way, found, refused, wayOf}
+use Rattle.questions.specs.Listing.{filled}
+use Rattle.session.specs.Question.{followed, lookupOf, listOf, statOf, readOf}
 use Rattle.session.specs.Issue.{issues}
 use Rattle.session.specs.Edit.{changed, makeOf, removeOf, renameOf, writeOf, setLengthOf, forderOf}
 use Rattle.session.specs.Send.{Sends, sendAll, pushOf, pushed, sendOne, fsyncOf, synced, cutOff, cutOf, isNone, lossBytes, takeOf, renewOf}

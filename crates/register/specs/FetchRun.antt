@@ -21,7 +21,7 @@ use Rattle.session.specs.Call.{Geometry, Buffers, Call, lookup, list, stat, rea
 use Rattle.session.specs.Refusal.{Row, row, firstOf}
 use Rattle.session.specs.RefusalLaws.{passed}
 use Rattle.session.specs.Model.{Model, model, Outcome, refusedWith, unless, badProgram}
-use Rattle.session.specs.Question.{filled}
+use Rattle.questions.specs.Listing.{filled}
 use Rattle.session.specs.Send.{isNone, lossBytes, takeOf}
 use Rattle.session.specs.Step.{Result, step, mount, outcome, decodeModel}
 use Rattle.session.specs.StepLaws.{Holds, step-holds, mount-holds}

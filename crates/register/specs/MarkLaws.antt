@@ -18,7 +18,7 @@ use Rattle.names.specs.Path.{pathTextOf, components}
 use Rattle.records.specs.Operation.{Operation, Record, operands}
 use Rattle.records.specs.Fields.{member}
 use Rattle.records.specs.Reader.{objectsOf}
-use Rattle.volume.specs.Entry.{isDirectory, isFile, contentsOf, kindNumber, usage}
+use Rattle.entry.specs.Entry.{isDirectory, isFile, contentsOf, kindNumber, usage}
 use Rattle.volume.specs.Volume.{Volume, entryAt, search}
 use Rattle.volume.specs.Apply.{applies, apply}
 use Rattle.log.specs.Programs.{holds, with}
@@ -35,7 +35,9 @@ use Rattle.session.specs.Call.{Geometry, Buffers, Answer, Call, lookup, list, s
 use Rattle.session.specs.Call
 use Rattle.session.specs.Refusal.{Row, row, firstOf}
 use Rattle.session.specs.Model.{Model, model, Outcome, refusedWith, unless, badProgram, marked, outside, isFree, issued, answered}
-use Rattle.session.specs.Question.{Way, found, refused, walk, wayOf, sought, checked, followed, listing, filled, objectRows, lookupOf, listOf, statOf, readOf}
+use Rattle.questions.specs.Way.{Way, found, refused, walk, wayOf, sought, checked}
+use Rattle.questions.specs.Listing.{listing, filled}
+use Rattle.session.specs.Question.{followed, objectRows, lookupOf, listOf, statOf, readOf}
 use Rattle.session.specs.Issue.{objectOr0, writes, renames, issues}
 use Rattle.session.specs.Edit.{changed, makeOf, removeOf, renameOf, writeOf, setLengthOf, forderOf}
 use Rattle.session.specs.Send.{isNone, lossBytes, Sends, sendAll, pushOf, pushed, sendOne, fsyncOf, synced, cutOff, cutOf, takeOf, renewOf}

@@ -11,7 +11,7 @@ use Rattle.records.specs.Fields.{member}
 use Rattle.volume.specs.Volume.{Volume}
 use Rattle.log.specs.Order.{directlyPrecedes, closure}
 use Rattle.session.specs.Call.{Call, lookup, list, stat, read, createFile, makeDirectory, remove, rename, write, setLength, forder, push, fsync, cut, take as takeLoss, renew, Answer}
-use Rattle.session.specs.Question.{Way, found, refused, wayOf}
+use Rattle.questions.specs.Way.{Way, found, refused, wayOf}
 use Rattle.session.specs.Issue.{issues}
 use Rattle.register.specs.Replay.{replay}
 

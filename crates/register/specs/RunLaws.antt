@@ -18,7 +18,7 @@ use Rattle.names.specs.Name.{nameTextOf}
 use Rattle.names.specs.Path.{pathTextOf, components}
 use Rattle.records.specs.Operation.{Operation, Record}
 use Rattle.records.specs.Reader.{objectsOf}
-use Rattle.volume.specs.Entry.{isDirectory}
+use Rattle.entry.specs.Entry.{isDirectory}
 use Rattle.volume.specs.Volume.{Volume, entryAt, search}
 use Rattle.volume.specs.Apply.{applies, apply}
 use Rattle.log.specs.Slot.{Log}
@@ -32,7 +32,9 @@ use Rattle.session.specs.Call.{Geometry, Call, lookup, list, stat, read, create
 use Rattle.session.specs.Call
 use Rattle.session.specs.Refusal.{Row, row, firstOf}
 use Rattle.session.specs.Model.{Model, model, Outcome, refusedWith, unless, badProgram, marked, outside, isFree, issued, answered}
-use Rattle.session.specs.Question.{Way, found, refused, walk, wayOf, sought, checked, followed, filled, lookupOf, listOf, statOf, readOf}
+use Rattle.questions.specs.Way.{Way, found, refused, walk, wayOf, sought, checked}
+use Rattle.questions.specs.Listing.{filled}
+use Rattle.session.specs.Question.{followed, lookupOf, listOf, statOf, readOf}
 use Rattle.session.specs.Issue.{objectOr0, writes, renames, issues}
 use Rattle.session.specs.Edit.{changed, makeOf, removeOf, renameOf, writeOf, setLengthOf, forderOf}
 use Rattle.session.specs.Send.{Sends, sendAll, pushOf, pushed, sendOne, fsyncOf, synced, cutOff, cutOf, takeOf, renewOf, isNone, lossBytes}

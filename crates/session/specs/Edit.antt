@@ -9,7 +9,7 @@ use Rattle.names.specs.Name.{nameTextOf}
 use Rattle.records.specs.Operation.{Operation}
 use Rattle.records.specs.Fields.{different}
 use Rattle.records.specs.Reader.{objectsOf}
-use Rattle.volume.specs.Entry.{Entry, isUsed, isFile, isDirectory, kindNumber, contentsOf}
+use Rattle.entry.specs.Entry.{Entry, isUsed, isFile, isDirectory, kindNumber, contentsOf}
 use Rattle.volume.specs.Volume.{Volume, entryAt, search, hasChildren}
 use Rattle.volume.specs.Apply.{isAbsent, isAt}
 use Rattle.session.specs.Call.{Geometry, Call, createFile, makeDirectory, remove, rename, write, setLength, forder}

@@ -17,7 +17,7 @@ use Rattle.records.specs.Operation.{Operation}
 use Rattle.records.specs.Fields.{validList, different, allUpTo, allBelow, between}
 use Rattle.records.specs.Reader.{objectsOf}
 use Rattle.records.specs.ListLaws.{count-objects}
-use Rattle.volume.specs.Entry.{Entry, free, file, directory, isUsed, isFile, isDirectory, kindNumber, contentsOf}
+use Rattle.entry.specs.Entry.{Entry, free, file, directory, isUsed, isFile, isDirectory, kindNumber, contentsOf}
 use Rattle.volume.specs.Volume.{Volume, entryAt, search, hasChildren, isChild, isNamed}
 use Rattle.volume.specs.Form.{wellFormed}
 use Rattle.volume.specs.FormLaws.{Good, well-formed-inv, lowest-some}

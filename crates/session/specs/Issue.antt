@@ -7,7 +7,7 @@ use lib.ListN.{length}
 use lib.Dec.{eqb}
 use Rattle.records.specs.Operation.{Operation}
 use Rattle.records.specs.Reader.{objectsOf}
-use Rattle.volume.specs.Entry.{contentsOf}
+use Rattle.entry.specs.Entry.{contentsOf}
 use Rattle.volume.specs.Volume.{Volume, entryAt, search}
 use Rattle.session.specs.Call.{Call, lookup, list, stat, read, createFile, makeDirectory, remove, rename, write, setLength, forder, push, fsync, cut, take, renew}
 

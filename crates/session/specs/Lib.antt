@@ -14,3 +14,4 @@ pub mod SoundLaws
 pub mod StepLaws
 pub mod SendLaws
 pub mod EffectLaws
+pub mod AskLaws

@@ -9,7 +9,7 @@ use Rattle.names.specs.declared.NameText.{NameText}
 use Rattle.names.specs.declared.NameText.the-variants.{Fine, Bad, Long}
 use Rattle.names.specs.Name.{nameTextOf}
 use Rattle.records.specs.Operation.{Operation}
-use Rattle.volume.specs.Entry.{Entry, isUsed}
+use Rattle.entry.specs.Entry.{Entry, isUsed}
 use Rattle.volume.specs.Volume.{Volume, entryAt}
 use Rattle.volume.specs.Apply.{apply}
 use Rattle.log.specs.Programs.{holds}

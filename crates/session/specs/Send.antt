@@ -15,7 +15,7 @@ use Rattle.log.specs.Change.{note, sent, discard, taken, renewed, waitingOf, wa
 use Rattle.session.specs.Call.{Answer, answer}
 use Rattle.session.specs.Refusal.{Row, row, firstOf}
 use Rattle.session.specs.Model.{Model, model, Outcome, refusedWith, unless, badProgram, marked, outside, isFree}
-use Rattle.session.specs.Question.{filled}
+use Rattle.questions.specs.Listing.{filled}
 
 -- "Damaged: .. an operation being sent does not apply to the server"; else the server takes it and its slot is freed
 abbrev pub sendOne : Record → Model → Outcome

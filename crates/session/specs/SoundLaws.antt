@@ -30,7 +30,8 @@ use Rattle.session.specs.Refusal.{Row, row, firstOf}
 use Rattle.session.specs.Model.{Model, model, Outcome, refusedWith, unless, badProgram, marked, outside, isFree, applyAll, issued, answered}
 use Rattle.session.specs.Issue.{objectOr0, writes, renames, issues}
 use Rattle.session.specs.Edit.{changed, makeOf, removeOf, renameOf, writeOf, setLengthOf, forderOf}
-use Rattle.session.specs.Question.{lookupOf, listOf, statOf, readOf, followed, Way, found, refused, wayOf, objectRows}
+use Rattle.questions.specs.Way.{Way, found, refused, wayOf}
+use Rattle.session.specs.Question.{lookupOf, listOf, statOf, readOf, followed, objectRows}
 use Rattle.session.specs.Send.{Sends, sendAll, pushOf, pushed, sendOne, fsyncOf, synced, cutOff, cutOf, takeOf, renewOf}
 use Rattle.session.specs.Step.{outcome}
 use Rattle.session.specs.RefusalLaws.{Passed, numbered, passed, accepted-next}

@@ -7,6 +7,7 @@ use lib.ListN.{length, replicate}
 use lib.Dec.{eqb}
 use Rattle.volume.specs.Volume.{Volume, formatted}
 use Rattle.volume.specs.Stored.{encodeVolume, decodeVolume}
+use Rattle.volume.specs.Lent.{isSome}
 use Rattle.log.specs.Slot.{Log, emptyLog}
 use Rattle.log.specs.Stored.{encodeLog, decodeLog, logBytes}
 use Rattle.session.specs.Call.{Geometry, Buffers, Call, lookup, list, stat, read, createFile, makeDirectory, remove, rename, write, setLength, forder, push, fsync, cut, take, renew, Answer, answer, resultCount, ownBuffer, inRange, serverFits, lengthsFit}
@@ -79,10 +80,6 @@ format g s = cond (inRange g && serverFits g s) 0 1
 
 unfoldable pub formatLeaves : Geometry → List ℕ → List ℕ
 formatLeaves g s = cond (inRange g && serverFits g s) (encodeVolume (g .blocks) (formatted (g .objects))) s
-
-abbrev pub isSome : Option Volume → Bool
-isSome none = false
-isSome (some v) = true
 
 -- "Mount checks the server volume, copies it to the view and begins an empty log"; "mount at all three lengths and the server
 -- volume's form"

@@ -11,6 +11,7 @@ use borrow.Author.Tests.{eq-eqb}
 use Rattle.volume.specs.Volume.{Volume, formatted}
 use Rattle.volume.specs.Form.{wellFormed}
 use Rattle.volume.specs.Stored.{encodeVolume, decodeVolume}
+use Rattle.volume.specs.Lent.{isSome}
 use Rattle.volume.specs.StoredLaws
 use Rattle.log.specs.Slot.{Log, emptyLog}
 use Rattle.log.specs.Slot
@@ -19,7 +20,7 @@ use Rattle.log.specs.Stored.{encodeLog, decodeLog, logBytes}
 use Rattle.log.specs.StoredLaws as LogLaws
 use Rattle.session.specs.Call.{Geometry, Buffers, Call, Answer, inRange, serverFits, lengthsFit}
 use Rattle.session.specs.Model.{Model, model, Outcome}
-use Rattle.session.specs.Step.{Result, outcome, encodeModel, joinModel, decodeModel, onModel, step, mount, format, formatLeaves, isSome}
+use Rattle.session.specs.Step.{Result, outcome, encodeModel, joinModel, decodeModel, onModel, step, mount, format, formatLeaves}
 use Rattle.session.specs.EditLaws.{Sound, objects-few, blocks-few}
 use Rattle.session.specs.SoundLaws.{call-sound}
 

@@ -1,12 +1,13 @@
 -- Document 01, "Returned numbers" (its last paragraph) and "Calls": when an operation applies to a volume, and what it leaves.
-use Prim.Native.Nat.{ℕ, _+_, _-_}
-use mathlib.Core.List.{List, [], _∷_, _++_}
+use Prim.Native.Nat.{ℕ, _+_}
+use mathlib.Core.List.{List, [], _++_}
 use mathlib.Core.Bool.{Bool, true, false, not, _&&_, _||_}
 use mathlib.Core.Option.{Option, none, some}
-use lib.ListN.{length, set, take, drop, replicate}
+use lib.ListN.{length, set}
 use lib.Dec.{leb, ltb, eqb}
 use Rattle.records.specs.Operation.{Operation, createFile, makeDirectory, remove, rename, overwrite, append, setLength, forder}
-use Rattle.volume.specs.Entry.{Entry, free, file, directory, isUsed, isFile, isDirectory, contentsOf, renamed, refilled, kindNumber}
+use Rattle.entry.specs.Entry.{free, file, directory, isUsed, isFile, isDirectory, contentsOf, renamed, refilled, kindNumber}
+use Rattle.entry.specs.Write.{written, resized}
 use Rattle.volume.specs.Volume.{Volume, entryAt, search, hasChildren}
 
 abbrev pub isAbsent : Option ℕ → Bool
@@ -30,33 +31,41 @@ hasRoom v o p n =
 abbrev pub stays : Volume → ℕ → ℕ → ℕ → Bool
 stays v o p q = not (isDirectory (entryAt v o)) || eqb p q
 
+-- "a file by a file or an empty directory by a directory"
+abbrev pub displaceable : Volume → ℕ → ℕ → Bool
+displaceable v o d = eqb (kindNumber (entryAt v d)) (kindNumber (entryAt v o)) && not (hasChildren v d)
+
 -- "a rename with map 55 needs its second name absent or leading to the object"; with map 63 the second name leads to the
--- displaced object: "a file by a file or an empty directory by a directory"
+-- displaced object
 abbrev pub yields : Volume → ℕ → ℕ → Option ℕ → List ℕ → Bool
 yields v o q none m = isAbsent (search v q m) || isAt o (search v q m)
-yields v o q (some d) m =
-    isAt d (search v q m) && (eqb (kindNumber (entryAt v d)) (kindNumber (entryAt v o)) && not (hasChildren v d))
+yields v o q (some d) m = isAt d (search v q m) && displaceable v o d
+
+-- a removed object is named and without children
+abbrev pub removable : Volume → ℕ → ℕ → List ℕ → Bool
+removable v o p n = leads v p n o && not (hasChildren v o)
+
+abbrev pub renamable : Volume → ℕ → ℕ → ℕ → Option ℕ → List ℕ → List ℕ → Bool
+renamable v o p q d n m = leads v p n o && (isDirectory (entryAt v q) && (stays v o p q && yields v o q d m))
+
+-- a write over bytes of a file, and one at its end
+abbrev pub overwritable : Volume → ℕ → ℕ → ℕ → Bool
+overwritable v o f k = isFile (entryAt v o) && leb (f + k) (length (contentsOf (entryAt v o)))
+
+abbrev pub appendable : Volume → ℕ → ℕ → Bool
+appendable v o f = isFile (entryAt v o) && eqb f (length (contentsOf (entryAt v o)))
 
 -- "An operation applies if its own conditions hold there and names lead to the recorded objects; an append must begin at
 -- the length .. Forder always applies."
 unfoldable pub applies : Volume → Operation → Bool
 applies v (createFile o p n) = hasRoom v o p n
 applies v (makeDirectory o p n) = hasRoom v o p n
-applies v (remove o p n) = leads v p n o && not (hasChildren v o)
-applies v (rename o p q d n m) =
-    leads v p n o && (isDirectory (entryAt v q) && (stays v o p q && yields v o q d m))
-applies v (overwrite o f c) = isFile (entryAt v o) && leb (f + length c) (length (contentsOf (entryAt v o)))
-applies v (append o f c) = isFile (entryAt v o) && eqb f (length (contentsOf (entryAt v o)))
+applies v (remove o p n) = removable v o p n
+applies v (rename o p q d n m) = renamable v o p q d n m
+applies v (overwrite o f c) = overwritable v o f (length c)
+applies v (append o f c) = appendable v o f
 applies v (setLength o f) = isFile (entryAt v o)
 applies v (forder l) = true
-
--- bytes written over some contents from an offset on
-abbrev pub written : List ℕ → ℕ → List ℕ → List ℕ
-written c f s = take f c ++ (s ++ drop (f + length s) c)
-
--- "Set length zeroes what it cuts off or adds."
-abbrev pub resized : List ℕ → ℕ → List ℕ
-resized c f = take f c ++ replicate (f - length c) 0
 
 -- a displaced object is gone
 abbrev pub without : Volume → Option ℕ → Volume

@@ -13,10 +13,11 @@ use Rattle.names.specs.Name.{validName}
 use Rattle.records.specs.Operation.{Operation, createFile, makeDirectory, remove, rename, overwrite, append, setLength, forder, Record, mapOf, operands}
 use Rattle.records.specs.Fields.{parts, standsIn, ifStands, differing, tied, valid, allBelow, fits}
 use Rattle.records.specs.ExactLaws.{valid-inv}
-use Rattle.volume.specs.Entry.{Entry, free, file, directory, isUsed, isFile, isDirectory, nameOf, parentOf, contentsOf, renamed, refilled, kindNumber}
+use Rattle.entry.specs.Entry.{Entry, free, file, directory, isUsed, isFile, isDirectory, nameOf, parentOf, contentsOf, renamed, refilled, kindNumber}
 use Rattle.volume.specs.Volume.{Volume, entryAt, search, hasChildren}
 use Rattle.volume.specs.Form.{wellFormed}
-use Rattle.volume.specs.Apply.{isAbsent, isAt, leads, hasRoom, stays, yields, applies, written, resized, apply}
+use Rattle.entry.specs.Write.{written, resized}
+use Rattle.volume.specs.Apply.{isAbsent, isAt, leads, hasRoom, stays, displaceable, yields, applies, apply}
 use Rattle.volume.specs.SearchLaws.{entry-set-same, entry-set-other, used-below, Named, child-intro, named-inv, named-intro, search-found, search-none, childless}
 use Rattle.volume.specs.ChangeLaws.{same-or, unused-free, Sound, well-formed-sound, sound-well-formed, child-used, no-directory, leaf, place, named-before, set-sound}
 
@@ -167,6 +168,17 @@ displaced-sound n b v s o p q d k m z x t w h y =
     (renamed-sound n b (set v d free) (free-sound n b v s d below (g .other) l) o p q k m
     (record { other = x .other; used = ap isUsed e ∙ x .used; parent = ap parentOf e ∙ x .parent; name = ap nameOf e ∙ x .name }) r
     (ap (λ (y : Entry). not (isDirectory y) || eqb p q) e ∙ w) h only)
+
+-- A volume is well formed without the object that a rename displaces.
+pub displaced-good : (n b : ℕ) (v : Volume) → wellFormed n b v ≡ true → (o q d : ℕ) (m : List ℕ) → yields v o q (some d) m ≡ true
+    → (d < length v) × (wellFormed n b (set v d free) ≡ true)
+displaced-good n b v w o q d m y =
+    let s = well-formed-sound n b v w in
+    let a = and-eq-true-iff (isAt d (search v q m)) (displaceable v o d) .0 y in
+    let c = and-eq-true-iff (eqb (kindNumber (entryAt v d)) (kindNumber (entryAt v o))) (not (hasChildren v d)) .0 (a .1) in
+    let g : Named v q m d = named-inv v q m d (search-found v q m d (at-some d (search v q m) (a .0)) .0) in
+    let below = used-below v d (g .used) in
+    (below, sound-well-formed n b (set v d free) (free-sound n b v s d below (g .other) (parent-of-none n b v s d (g .other) (c .1))))
 
 -- by kind, from what is asked of the fields of a valid record that fits
 applied-sound : (n b : ℕ) (v : Volume) → Sound n b v → (x : Operation)

@@ -11,7 +11,7 @@ use lib.Dec.{eqb}
 use borrow.Author.Tests.{eqb-true, eqb-false}
 use Rattle.names.specs.Name.{validName, sameName}
 use Rattle.names.specs.NameLaws.{same-equal, equal-same}
-use Rattle.volume.specs.Entry.{Entry, free, file, directory, isUsed, isDirectory, nameOf, parentOf, contentsOf}
+use Rattle.entry.specs.Entry.{Entry, free, file, directory, isUsed, isDirectory, nameOf, parentOf, contentsOf}
 use Rattle.volume.specs.Volume.{Volume, entryAt, isChild, isNamed, search}
 use Rattle.volume.specs.Form.{twins, wellFormed}
 use Rattle.volume.specs.FormLaws.{Placed, placed-inv, placed-intro, Good, well-formed-inv, good-well-formed}

@@ -8,7 +8,7 @@ use mathlib.Core.Bool.{Bool, true, false, not, _&&_, _||_, cond, false≢true}
 use lib.ListN.{length}
 use lib.Dec.{ltb, eqb}
 use borrow.Author.Tests.{ltb-true, ltb-false, eqb-true}
-use Rattle.volume.specs.Entry.{parentOf}
+use Rattle.entry.specs.Entry.{parentOf}
 use Rattle.volume.specs.Volume.{Volume, entryAt, every}
 use Rattle.volume.specs.Form.{climbs}
 use Rattle.volume.specs.FormLaws.{every-inv, every-intro}

@@ -1,11 +1,11 @@
 -- Document 01, "Geometry and stored form": a well-formed volume.
 use Prim.Native.Nat.{ℕ, zero, suc, _*_}
-use mathlib.Core.List.{List, [], _∷_}
+use mathlib.Core.List.{[], _∷_}
 use mathlib.Core.Bool.{Bool, true, false, not, _&&_, _||_}
 use lib.ListN.{length}
 use lib.Dec.{leb, eqb}
 use Rattle.names.specs.Name.{validName, sameName}
-use Rattle.volume.specs.Entry.{Entry, free, file, directory, isUsed, isDirectory, nameOf, parentOf}
+use Rattle.entry.specs.Entry.{Entry, free, file, directory, isDirectory, nameOf, parentOf}
 use Rattle.volume.specs.Volume.{Volume, entryAt, every, isChild}
 
 -- entry 0 is reached from an entry in so many steps from child to parent

@@ -11,12 +11,12 @@ use lib.ListN.{length}
 use lib.Dec.{leb, eqb}
 use borrow.Author.Tests.{le-leb, leb-true, eq-eqb, ne-eqb, eqb-true, eqb-false, not-true}
 use Rattle.names.specs.Name.{validName}
-use Rattle.volume.specs.Entry.{Entry, free, file, directory, isUsed, isDirectory, nameOf, parentOf, contentsOf}
+use Rattle.entry.specs.Entry.{Entry, free, file, directory, isUsed, isDirectory, nameOf, parentOf, contentsOf}
 use Rattle.volume.specs.Volume.{Volume, entryAt, every, lowest}
 use Rattle.volume.specs.Form.{climbs, isRoot, placed, twins, apart, wellFormed}
 
 -- What a test says of each number below a bound and of the bound, it says of each below the next bound.
-up-to : (k : ℕ) (f : ℕ → Bool) (b : Bool) → ((i : ℕ) → i < k → f i ≡ b) → f k ≡ b → (i : ℕ) → i < suc k → f i ≡ b
+pub up-to : (k : ℕ) (f : ℕ → Bool) (b : Bool) → ((i : ℕ) → i < k → f i ≡ b) → f k ≡ b → (i : ℕ) → i < suc k → f i ≡ b
 up-to k f b h t i l = go (eqb i k) refl
   where
     go : (c : Bool) → eqb i k ≡ c → f i ≡ b
@@ -37,6 +37,14 @@ unfolding every
 every-intro zero f h = refl
 every-intro (suc k) f h =
     and-eq-true-iff (every k f) (f k) .1 (every-intro k f (λ i l. h i (omega arith)), h k (omega arith))
+
+-- If one number below a bound fails a test, not every one passes.
+pub every-not : (k : ℕ) (f : ℕ → Bool) (i : ℕ) → i < k → f i ≡ false → every k f ≡ false
+every-not k f i h t = go (every k f) refl
+  where
+    go : (b : Bool) → every k f ≡ b → every k f ≡ false
+    go true e = absurd (false≢true (sym t ∙ every-inv k f e i h))
+    go false e = e
 
 -- What is found below a bound is found below the next.
 lowest-on : (k : ℕ) (f : ℕ → Bool) (i : ℕ) → lowest k f ≡ some i → lowest (suc k) f ≡ some i

@@ -14,10 +14,11 @@ use Rattle.names.specs.Name.{sameName}
 use Rattle.names.specs.NameLaws.{equal-same}
 use Rattle.records.specs.Operation.{Operation, createFile, makeDirectory, remove, rename, overwrite, append, setLength, forder, Record, operands}
 use Rattle.records.specs.Fields.{member, valid, fits}
-use Rattle.volume.specs.Entry.{Entry, free, file, directory, isUsed, isFile, isDirectory, nameOf, parentOf, contentsOf, renamed, refilled, kindNumber}
+use Rattle.entry.specs.Entry.{Entry, free, file, directory, isUsed, isFile, isDirectory, nameOf, parentOf, contentsOf, renamed, refilled, kindNumber}
 use Rattle.volume.specs.Volume.{Volume, entryAt, isChild, isNamed, search, hasChildren}
 use Rattle.volume.specs.Form.{wellFormed}
-use Rattle.volume.specs.Apply.{isAbsent, isAt, leads, hasRoom, stays, applies, written, resized, apply}
+use Rattle.entry.specs.Write.{written, resized}
+use Rattle.volume.specs.Apply.{isAbsent, isAt, leads, hasRoom, stays, applies, apply}
 use Rattle.volume.specs.SearchLaws.{entry-set-same, entry-set-other, used-below, Named, named-inv, search-found, search-none, none-search, search-set, childless, no-children}
 use Rattle.volume.specs.ChangeLaws.{same-or, well-formed-sound, named-before}
 use Rattle.volume.specs.ApplyLaws.{leads-named, apply-good}

@@ -12,9 +12,9 @@ use lib.Dec.{ltb, eqb}
 use borrow.Author.Tests.{ltb-true, ltb-false, eq-eqb, ne-eqb, eqb-true, eqb-false, not-true}
 use Rattle.names.specs.Name.{sameName}
 use Rattle.names.specs.NameLaws.{same-equal, equal-same}
-use Rattle.volume.specs.Entry.{Entry, free, isUsed, nameOf, parentOf}
+use Rattle.entry.specs.Entry.{Entry, free, isUsed, nameOf, parentOf}
 use Rattle.volume.specs.Volume.{Volume, entryAt, every, lowest, isChild, isNamed, search, hasChildren}
-use Rattle.volume.specs.FormLaws.{every-inv, every-intro, lowest-none, lowest-some, none-lowest, some-lowest}
+use Rattle.volume.specs.FormLaws.{every-inv, every-intro, every-not, lowest-none, lowest-some, none-lowest, some-lowest}
 
 -- an entry that is set is what it was set to
 pub entry-set-same : (v : Volume) (o : ℕ) (e : Entry) → o < length v → entryAt (set v o e) o ≡ e
@@ -77,6 +77,12 @@ pub none-search : (v : Volume) (d : ℕ) (n : List ℕ) → ((i : ℕ) → i < l
 unfolding search
 none-search v d n h = none-lowest (length v) (isNamed v d n) h
 
+-- what has the name in the directory, and nothing before it, is found
+pub search-at : (v : Volume) (d : ℕ) (n : List ℕ) (i : ℕ) → i < length v → isNamed v d n i ≡ true → ((j : ℕ) → j < i → isNamed v d n j ≡ false)
+    → search v d n ≡ some i
+unfolding search
+search-at v d n i h t l = some-lowest (length v) (isNamed v d n) i h t l
+
 -- two tests that agree below a bound find the same
 pub lowest-same : (k : ℕ) (f g : ℕ → Bool) → ((i : ℕ) → i < k → f i ≡ g i) → lowest k f ≡ lowest k g
 lowest-same k f g h = go (lowest k f) refl
@@ -108,6 +114,11 @@ childless v d t i h =
     go : (b : Bool) → not (not b) ≡ true → b ≡ true
     go true e = refl
     go false e = e
+
+-- a child makes a directory one that has children
+pub child-children : (v : Volume) (d i : ℕ) → i < length v → isChild v d i ≡ true → hasChildren v d ≡ true
+unfolding hasChildren
+child-children v d i h t = ap not (every-not (length v) (λ i. not (isChild v d i)) i h (ap not t))
 
 -- an entry that is nobody's parent has no children
 pub no-children : (v : Volume) (d : ℕ) → ((i : ℕ) → i < length v → isChild v d i ≡ false) → hasChildren v d ≡ false

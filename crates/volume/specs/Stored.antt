@@ -1,53 +1,19 @@
 -- Document 01, "Geometry and stored form": the bytes of a volume, and the volume of some bytes.
-use Prim.Native.Nat.{ℕ, zero, suc, _+_, _*_, _-_}
-use mathlib.Core.List.{List, [], _∷_, _++_, map}
-use mathlib.Core.Bool.{Bool, true, false, _&&_, cond}
+use Prim.Native.Nat.{ℕ, zero, suc, _*_}
+use mathlib.Core.List.{List, [], _∷_, _++_}
+use mathlib.Core.Bool.{_&&_, cond}
 use mathlib.Core.Option.{Option, none, some}
-use lib.ListN.{length, getD, take, drop, replicate}
-use lib.Dec.{eqb}
-use Rattle.records.specs.Numeral.{bytes, numeral}
-use Rattle.volume.specs.Entry.{Entry, free, file, directory, kindNumber, nameOf, parentOf, contentsOf}
+use lib.ListN.{take, drop}
+use Rattle.entry.specs.Stored.{entryBytes, encodeEntry, sameBytes, readEntry}
 use Rattle.volume.specs.Volume.{Volume}
 use Rattle.volume.specs.Form.{wellFormed}
-
--- "Bytes not in use are zero": some bytes and zeros up to a width
-abbrev pub padded : ℕ → List ℕ → List ℕ
-padded w s = s ++ replicate (w - length s) 0
-
--- "n entries of 68 + 1,024 × b bytes"
-abbrev pub entryBytes : ℕ → ℕ
-entryBytes b = 68 + 1024 * b
 
 abbrev pub volumeBytes : ℕ → ℕ → ℕ
 volumeBytes n b = n * entryBytes b
 
--- "kind (1 byte ..), name length (1), parent (2), name (60), file length (4), then data"
-unfoldable pub encodeEntry : ℕ → Entry → List ℕ
-encodeEntry b e =
-    bytes 1 (kindNumber e) ++ (bytes 1 (length (nameOf e)) ++ (bytes 2 (parentOf e) ++ (padded 60 (nameOf e)
-    ++ (bytes 4 (length (contentsOf e)) ++ padded (1024 * b) (contentsOf e)))))
-
 unfoldable pub encodeVolume : ℕ → Volume → List ℕ
 encodeVolume b [] = []
 encodeVolume b (e ∷ v) = encodeEntry b e ++ encodeVolume b v
-
--- the same bytes, to the end of both
-unfoldable pub sameBytes : List ℕ → List ℕ → Bool
-sameBytes [] [] = true
-sameBytes [] (b ∷ t) = false
-sameBytes (a ∷ s) [] = false
-sameBytes (a ∷ s) (b ∷ t) = eqb a b && sameBytes s t
-
--- what the fields of an entry's bytes say, whatever else stands in them
-abbrev pub entryOf : ℕ → List ℕ → ℕ → List ℕ → Entry
-entryOf zero n p c = free
-entryOf (suc zero) n p c = file n p c
-entryOf (suc (suc k)) n p c = directory n p
-
-unfoldable pub readEntry : List ℕ → Entry
-readEntry s =
-    entryOf (getD s 0 0) (take (getD s 1 0) (drop 4 s)) (numeral (take 2 (drop 2 s)))
-    (take (numeral (take 4 (drop 64 s))) (drop 68 s))
 
 unfoldable pub readVolume : ℕ → ℕ → List ℕ → Volume
 readVolume zero b s = []

@@ -5,37 +5,23 @@ use Prim.Native.Nat.{ℕ, zero, suc, _+_, _*_, _^_, _≤_, _<_, suc-le-suc}
 use native.Mathlib.Nat.{zero-mul, suc-mul}
 use native.Mathlib.Omega.{arith}
 use mathlib.Core.Path.{_≡_, refl, sym, ap, ap₂, _∙_, subst}
-use mathlib.Core.Bool.{Bool, true, false, not, _&&_, cond, and-eq-true-iff, and-false, false≢true}
+use mathlib.Core.Bool.{Bool, true, false, not, _&&_, cond, and-false, false≢true}
 use mathlib.Core.List.{List, [], _∷_, _++_}
 use mathlib.Core.Option.{none, some, Option·some-injective}
-use lib.ListN.{length, getD, take, drop, replicate, length-append, length-replicate, getD-replicate, replicate-append-replicate, List·getD-eq-default}
+use lib.ListN.{length, getD, set, replicate, length-append, length-replicate, getD-replicate, replicate-append-replicate, List·getD-eq-default}
 use lib.Seq.{take-at, drop-at}
 use lib.Dec.{ltb, eqb}
-use borrow.Author.Tests.{eq-eqb, eqb-true, eqb-false, ltb-true, ltb-false}
+use borrow.Author.Tests.{eqb-true, eqb-false, ltb-true, ltb-false}
 use Rattle.names.specs.Name.{sameName}
+use Rattle.records.specs.Numeral.{bytes}
 use Rattle.names.specs.NameLaws.{valid-length}
-use Rattle.volume.specs.Entry.{Entry, free, file, directory, isUsed, isDirectory, nameOf, parentOf, contentsOf}
+use Rattle.entry.specs.Entry.{Entry, free, file, directory, isUsed, isDirectory, nameOf, parentOf, contentsOf}
 use Rattle.volume.specs.Volume.{Volume, entryAt, isChild, root, formatted}
 use Rattle.volume.specs.Form.{placed, wellFormed}
 use Rattle.volume.specs.FormLaws.{Good, placed-inv, well-formed-inv, good-well-formed}
-use Rattle.volume.specs.Stored.{entryBytes, volumeBytes, encodeEntry, encodeVolume, sameBytes, readEntry, readVolume, decodeVolume}
-use Rattle.volume.specs.EntryLaws.{length-entry, free-zero, read-entry}
-
--- Bytes that are found to be the same are equal.
-pub same-bytes : (s t : List ℕ) → sameBytes s t ≡ true → s ≡ t
-unfolding sameBytes
-same-bytes [] [] e = refl
-same-bytes [] (b ∷ t) e = absurd (false≢true e)
-same-bytes (a ∷ s) [] e = absurd (false≢true e)
-same-bytes (a ∷ s) (b ∷ t) e =
-    let h = and-eq-true-iff (eqb a b) (sameBytes s t) .0 e in
-    ap₂ (λ (v : ℕ) (r : List ℕ). v ∷ r) (eqb-true a b (h .0)) (same-bytes s t (h .1))
-
--- Bytes are found to be the same as themselves.
-pub bytes-same : (s : List ℕ) → sameBytes s s ≡ true
-unfolding sameBytes
-bytes-same [] = refl
-bytes-same (a ∷ s) = rw (eq-eqb a a refl) (bytes-same s)
+use Rattle.entry.specs.Stored.{entryBytes, encodeEntry, sameBytes, readEntry}
+use Rattle.volume.specs.Stored.{volumeBytes, encodeVolume, readVolume, decodeVolume}
+use Rattle.entry.specs.EntryLaws.{same-bytes, bytes-same, length-entry, free-zero, read-entry}
 
 -- The limits within which an entry's name and contents fit their fields.
 pub record Sized (b : ℕ) (e : Entry) : Type 0 where
@@ -229,3 +215,9 @@ free-entries-zero (suc n) b =
 pub formatted-bytes : (n b : ℕ) → encodeVolume b (formatted (suc n)) ≡ encodeEntry b root ++ replicate (volumeBytes n b) 0
 unfolding formatted encodeVolume
 formatted-bytes n b = ap (λ (s : List ℕ). encodeEntry b root ++ s) (free-entries-zero n b)
+
+-- The bytes of a formatted volume are zeros but for the root's kind.
+pub formatted-zeros : (n b : ℕ) → 1 ≤ n → set (replicate (volumeBytes n b) 0) 0 2 ≡ encodeVolume b (formatted n)
+unfolding formatted encodeVolume encodeEntry bytes
+formatted-zeros zero b h = absurd (omega arith)
+formatted-zeros (suc n) b h = ap (λ (s : List ℕ). set s 0 2) (sym (free-entries-zero (suc n) b))

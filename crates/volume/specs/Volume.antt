@@ -1,12 +1,12 @@
 -- Document 01, "Geometry and stored form": a volume is its entries; children, and the search of a name in a directory.
 use Prim.Native.Nat.{ℕ, zero, suc}
 use mathlib.Core.List.{List, [], _∷_}
-use mathlib.Core.Bool.{Bool, true, false, not, _&&_, _||_, cond}
+use mathlib.Core.Bool.{Bool, true, not, _&&_, cond}
 use mathlib.Core.Option.{Option, none, some}
 use lib.ListN.{length, getD, replicate}
 use lib.Dec.{eqb}
 use Rattle.names.specs.Name.{sameName}
-use Rattle.volume.specs.Entry.{Entry, free, directory, isUsed, isDirectory, nameOf, parentOf}
+use Rattle.entry.specs.Entry.{Entry, free, directory, isUsed, nameOf, parentOf}
 
 abbrev pub Volume : Type 0
 Volume = List Entry

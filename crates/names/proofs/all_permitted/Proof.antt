@@ -1,42 +1,50 @@
--- `names::all_permitted` meets its contract. The loop's invariant: the whole text is permitted exactly where what is left of it is.
--- Assumes nothing.
+-- `names::all_permitted` meets its contract. The loop's invariant: the whole text is permitted exactly where what is left of it is,
+-- and the marks say what the rule says. Assumes nothing.
 use Prim.Native.Nat.{ℕ, _+_, _-_, _≤_, _<_}
 use mathlib.Core.Path.{_≡_, refl, sym, _∙_}
-use mathlib.Core.Bool.{Bool, true, false}
+use mathlib.Core.Bool.{true, false, not}
 use mathlib.Core.List.{List}
 use native.Mathlib.Omega.{arith}
+use lib.Dec.{eqb}
 use lib.ListN.{length, getD, drop, drop-of-length-le}
+use borrow.Author.Tests.{eq-eqb, ne-eqb}
 use Rattle.names.specs.Name.{allPermitted, permittedByte}
 use Rattle.names.specs.NameLaws.{all-step}
+use Rattle.names.proofs.Marks.{agrees, marked}
 use Rattle.names.proofs.all_permitted.Statement.{statement}
 use Rattle.names.proofs.all_permitted.Tie as tie
 
 abbrev Inv-loop : tie.InvT-loop
-Inv-loop s i₀ i = (i ≤ length s) × (allPermitted s ≡ allPermitted (drop i s))
+Inv-loop s marks i₀ i =
+    (i ≤ length s) × (allPermitted s ≡ allPermitted (drop i s)) × ((k : ℕ) → k < 256 → not (eqb (getD marks k 0) 0) ≡ permittedByte k)
 
 abbrev μ-loop : tie.MeasureT-loop
-μ-loop s i₀ i = length s - i
+μ-loop s marks i₀ i = length s - i
 
--- a turn: r is what `permitted` answers at the place i
-module _ (s : List ℕ) (i : ℕ) (h : i < length s) (inv : allPermitted s ≡ allPermitted (drop i s)) where
-  good : (r : Bool) → r ≡ permittedByte (getD s i 0) → r ≡ true → allPermitted s ≡ allPermitted (drop (i + 1) s)
-  good r e t = rw (← e, t) at (inv ∙ all-step s i h)
+-- a turn: x is the mark of the byte at the place i
+module _ (s : List ℕ) (i : ℕ) (h : i < length s) (inv : allPermitted s ≡ allPermitted (drop i s)) (x : ℕ) where
+  good : (x ≡ 0 → ⊥) → not (eqb x 0) ≡ permittedByte (getD s i 0) → allPermitted s ≡ allPermitted (drop (i + 1) s)
+  good z told = rw (← told, ne-eqb x 0 z) at (inv ∙ all-step s i h)
 
-  bad : (r : Bool) → r ≡ permittedByte (getD s i 0) → r ≡ false → false ≡ allPermitted s
-  bad r e t = sym (rw (← e, t) at (inv ∙ all-step s i h))
+  bad : x ≡ 0 → not (eqb x 0) ≡ permittedByte (getD s i 0) → false ≡ allPermitted s
+  bad z told = sym (rw (← told, eq-eqb x 0 z) at (inv ∙ all-step s i h))
 
 ended : (s : List ℕ) (i : ℕ) → length s ≤ i → allPermitted s ≡ allPermitted (drop i s) → true ≡ allPermitted s
 unfolding allPermitted
 ended s i h inv = sym (rw (drop-of-length-le s h) at inv)
 
 loop-holds : tie.Need-loop-holds Inv-loop μ-loop
-loop-holds c = (omega arith, refl)
+unfolding agrees permittedByte
+loop-holds c = (omega arith, refl, λ k h. simp marked)
 
-shared-slice-read-permitted : tie.Need-shared-slice-read-permitted Inv-loop μ-loop
-shared-slice-read-permitted c = omega arith
+shared-slice-read-if1 : tie.Need-shared-slice-read-if1 Inv-loop μ-loop
+shared-slice-read-if1 c = omega arith
 
-permitted-requires : tie.Need-permitted-requires Inv-loop μ-loop
-permitted-requires c κs = tt
+cast-if1 : tie.Need-cast-if1 Inv-loop μ-loop
+cast-if1 c = omega (arith, c .shared-slice-known .given (c .before .before .loop .i))
+
+array-read-if1 : tie.Need-array-read-if1 Inv-loop μ-loop
+array-read-if1 c = omega (arith, c .shared-slice-known .given (c .before .before .loop .i))
 
 add-i : tie.Need-add-i Inv-loop μ-loop
 add-i c = omega arith
@@ -46,13 +54,17 @@ loop-less c = omega arith
 
 loop-again : tie.Need-loop-again Inv-loop μ-loop
 loop-again c =
-    let t = c .before .before .before in
-    (omega arith, good _ _ (t .loop-test .taken) (t .before .loop .inv .1) _ (c .before .permitted .ensures) (c .if1 .taken))
+    let k = c .before in
+    let l = k .before .before in
+    let told = l .loop .inv .2 (getD (l .before .args .s .now) (l .loop .i) 0) (omega (arith, k .shared-slice-known .given (l .loop .i))) in
+    (omega arith, good _ _ (k .before .loop-test .taken) (l .loop .inv .1) _ (c .if1 .taken) told, l .loop .inv .2)
 
 returns : tie.Need-returns Inv-loop μ-loop
 returns c =
-    let t = c .before .before .before in
-    bad _ _ (t .loop-test .taken) (t .before .loop .inv .1) _ (c .before .permitted .ensures) (c .if1 .left)
+    let k = c .before in
+    let l = k .before .before in
+    let told = l .loop .inv .2 (getD (l .before .args .s .now) (l .loop .i) 0) (omega (arith, k .shared-slice-known .given (l .loop .i))) in
+    bad _ _ (k .before .loop-test .taken) (l .loop .inv .1) _ (c .if1 .left) told
 
 returns-2 : tie.Need-returns-2 Inv-loop μ-loop
 returns-2 c = ended _ _ (c .loop-test .left) (c .before .loop .inv .1)
@@ -64,8 +76,9 @@ all-permitted-spec =
     Inv-loop
     μ-loop
     loop-holds
-    shared-slice-read-permitted
-    permitted-requires
+    shared-slice-read-if1
+    cast-if1
+    array-read-if1
     add-i
     loop-less
     loop-again

@@ -1,0 +1,11 @@
+pub mod Entry
+pub mod UsageCases
+pub mod Stored
+pub mod Check
+pub mod Write
+pub mod EntryLaws
+pub mod ZeroLaws
+pub mod FieldLaws
+pub mod CheckTests
+pub mod CheckLaws
+pub mod WriteLaws

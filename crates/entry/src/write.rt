@@ -1,0 +1,22 @@
+// What is written of an entry.
+ghost use mathlib.Core.Path.{_≡_};
+ghost use Prim.Native.Nat.{_≤_};
+ghost use lib.ListN.{length};
+ghost use Rattle.entry.specs.Write.{headField};
+use crate::zero::clear;
+use records::writer::put_bytes;
+use records::writer::put_one;
+use records::writer::put_two;
+
+// Writes an entry's head, lent as the 64 bytes that it has: kind, name length, parent, name, and zeros behind the name.
+pub fn put_head(head: &mut [u8], kind: usize, parent: usize, name: &[u8])
+    requires { ⌜ length (now head) ≡ 64 ⌝ }
+    requires { ⌜ length (now name) ≤ 60 ⌝ }
+    ensures { λ r. ⌜ now (head .exit) ≡ headField kind parent (now (name .entry)) ⌝ }
+{
+    let a = put_one(head, 0, kind);
+    let b = put_one(head, a, name.len());
+    let c = put_two(head, b, parent);
+    let d = put_bytes(head, c, name);
+    clear(&mut head[d..]);
+}

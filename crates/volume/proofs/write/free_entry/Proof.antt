@@ -1,0 +1,74 @@
+-- `volume::write::free_entry` meets its contract: the entry is lent on as a part.
+-- Assumes nothing.
+use Prim.Native.Nat.{ℕ, _+_, _*_, _<_}
+use mathlib.Core.Path.{ap, _∙_}
+use native.Mathlib.Omega.{arith}
+use native.Mathlib.Nat.{add-sub-cancel-left}
+use lib.ListN.{replicate}
+use Rattle.records.specs.Patch.{patch}
+use Rattle.entry.specs.Stored.{entryBytes}
+use Rattle.volume.specs.LentLaws.{entry-within}
+use Rattle.volume.specs.WriteLaws.{lent-cleared, freed}
+use borrow.Author.Needs.{needs}
+use Rattle.volume.proofs.write.free_entry.Statement.{statement}
+use Rattle.volume.proofs.write.free_entry.Tie as tie
+
+mul-size : tie.Need-mul-size
+mul-size c = search needs
+
+add-size : tie.Need-add-size
+add-size c = search needs
+
+mul-at : tie.Need-mul-at
+mul-at c = let t = c .before in
+    let h : t .args .i < t .args .n = omega arith in
+    omega (arith, entry-within (t .args .n) (t .args .b) (t .args .i) h)
+
+add-end : tie.Need-add-end
+add-end c = let t = c .before in
+    let h : t .args .i < t .args .n = omega arith in
+    omega (arith, entry-within (t .args .n) (t .args .b) (t .args .i) h)
+
+sub-clear : tie.Need-sub-clear
+sub-clear c = search needs
+
+part-clear-start : tie.Need-part-clear-start
+part-clear-start c = search needs
+
+part-clear-end : tie.Need-part-clear-end
+part-clear-end c = let t = c .before in
+    let h : t .args .i < t .args .n = omega arith in
+    omega (arith, entry-within (t .args .n) (t .args .b) (t .args .i) h)
+
+clear-requires : tie.Need-clear-requires
+clear-requires c κs = search needs
+
+same-length : tie.Need-same-length
+same-length c = search needs
+
+returns : tie.Need-returns
+returns c =
+    let z = c .before .before in
+    let t = z .before .before .before in
+    let a = t .args in
+    let h : a .i < a .n = omega arith in
+    let w = entry-within (a .n) (a .b) (a .i) h in
+    let at = a .i * entryBytes (a .b) in
+    lent-cleared (a .s .now) at (at + entryBytes (a .b)) (z .clear .last .0) (omega arith) (omega arith) (z .clear .ensures)
+    ∙ ap (λ (k : ℕ). patch (a .s .now) at (replicate k 0)) (add-sub-cancel-left at (entryBytes (a .b)))
+    ∙ freed (a .n) (a .b) (a .s .now) (t .pre .0) (a .i) h
+
+pub free-entry-spec : {M : Type 1} → statement M
+free-entry-spec =
+    tie.close
+    (tie.spec
+    mul-size
+    add-size
+    mul-at
+    add-end
+    sub-clear
+    part-clear-start
+    part-clear-end
+    clear-requires
+    same-length
+    returns)

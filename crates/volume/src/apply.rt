@@ -1,0 +1,75 @@
+// What an operation leaves of a volume that it applies to (document 01, "Calls"). It serves the view when the operation is
+// issued and the server when it is sent.
+ghost use mathlib.Core.Path.{_≡_};
+ghost use mathlib.Core.Bool.{true};
+ghost use Prim.Native.Nat.{_≤_, _<_};
+ghost use lib.ListN.{length, set};
+ghost use Rattle.records.specs.Answer.{displacedIf};
+ghost use Rattle.entry.specs.Entry.{isUsed, renamed};
+ghost use Rattle.volume.specs.Apply.{without, applies, apply};
+ghost use Rattle.volume.specs.Stored.{encodeVolume, readVolume};
+ghost use Rattle.volume.specs.Lent.{Formed, entryIn};
+ghost use Rattle.volume.specs.Held.{Fitting, operationIn, Displaces};
+use crate::write::append_file;
+use crate::write::free_entry;
+use crate::write::make_entry;
+use crate::write::overwrite_file;
+use crate::write::rename_entry;
+use crate::write::set_file_length;
+use records::fit::stretch_of;
+use records::kind::Kind;
+use records::reader::Objects;
+use records::reader::Whole;
+use records::reader::stands;
+
+// What a rename leaves: the displaced object gone, and the object under its second name and parent.
+fn apply_rename(s: &mut [u8], n: usize, b: usize, objects: Objects, displacing: bool, name: &[u8])
+    requires { ⌜ Formed n b (now s) ⌝ }
+    requires { ⌜ (objects .object < n) × (isUsed (entryIn n b (now s) (objects .object)) ≡ true) × (length (now name) ≤ 60) ⌝ }
+    requires { ⌜ Displaces n b (readVolume n b (now s)) (objects .object) (displacedIf displacing (objects .displaced)) ⌝ }
+    ensures { λ r. ⌜ now (s .exit) ≡ encodeVolume b (set (without (readVolume n b (now (s .entry))) (displacedIf displacing (objects .displaced))) (objects .object) (renamed (entryIn n b (now (s .entry)) (objects .object)) (now (name .entry)) (objects .second))) ⌝ }
+{
+    if displacing {
+        free_entry(s, n, b, objects.displaced);
+        rename_entry(s, n, b, objects.object, objects.second, name);
+        return;
+    }
+    rename_entry(s, n, b, objects.object, objects.second, name);
+}
+
+// Applies the operation that a slice holds; every byte that it does not change stays.
+pub fn apply(s: &mut [u8], n: usize, b: usize, rec: &[u8], w: Whole)
+    requires { ⌜ Formed n b (now s) ⌝ }
+    requires { ⌜ Fitting n b (now rec) w ⌝ }
+    requires { ⌜ applies (readVolume n b (now s)) (operationIn (now rec) w) ≡ true ⌝ }
+    ensures { λ r. ⌜ now (s .exit) ≡ encodeVolume b (apply (readVolume n b (now (s .entry))) (operationIn (now (rec .entry)) w)) ⌝ }
+{
+    let head = w.head;
+    let objects = w.objects;
+    let names = w.names;
+    let range = w.range;
+    let first = names.name;
+    let second = names.second;
+    let content = range.content;
+    let o = objects.object;
+    let name = stretch_of(rec, first.start, first.len);
+    let src = stretch_of(rec, content.start, content.len);
+    let code = head.kind;
+    match code {
+        Kind::CreateFile => make_entry(s, n, b, o, 1, objects.parent, name),
+        Kind::MakeDirectory => make_entry(s, n, b, o, 2, objects.parent, name),
+        Kind::Remove => free_entry(s, n, b, o),
+        Kind::Rename => apply_rename(
+            s,
+            n,
+            b,
+            objects,
+            stands(head.map, 8),
+            stretch_of(rec, second.start, second.len),
+        ),
+        Kind::Overwrite => overwrite_file(s, n, b, o, range.offset, src),
+        Kind::Append => append_file(s, n, b, o, range.offset, src),
+        Kind::SetLength => set_file_length(s, n, b, o, range.offset),
+        Kind::Forder => {}
+    }
+}
