@@ -6,6 +6,6 @@ pub mod Write
 pub mod EntryLaws
 pub mod ZeroLaws
 pub mod FieldLaws
-pub mod CheckTests
+pub mod TestLaws
 pub mod CheckLaws
 pub mod WriteLaws

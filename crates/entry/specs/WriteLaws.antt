@@ -78,6 +78,11 @@ entry-parts : (b : ℕ) (e : Entry) → encodeEntry b e ≡ headOf e ++ (bytes 4
 unfolding encodeEntry headField
 entry-parts b e = simp append-assoc
 
+-- Bytes written over others are a patch.
+pub written-patch : (c : List ℕ) (f : ℕ) (s : List ℕ) → written c f s ≡ patch c f s
+unfolding patch
+written-patch c f s = refl
+
 -- An entry under another head.
 pub head-written : (b : ℕ) (x y : Entry) → length (nameOf x) ≤ 60 → length (nameOf y) ≤ 60 → contentsOf y ≡ contentsOf x
     → patch (encodeEntry b x) 0 (headField (kindNumber y) (parentOf y) (nameOf y)) ≡ encodeEntry b y

@@ -4,6 +4,11 @@ ghost use Prim.Native.Nat.{_≤_, _<_};
 ghost use lib.ListN.{length};
 ghost use Rattle.entry.specs.Entry.{kindNumber, nameOf, parentOf, contentsOf, isUsed, isFile, isDirectory, usage};
 ghost use Rattle.entry.specs.Stored.{readEntry};
+use crate::DATA_AT;
+use crate::DIRECTORY;
+use crate::FILE;
+use crate::FREE;
+use crate::LENGTH_AT;
 use records::fit::stretch_of;
 use records::number::byte_at;
 use records::number::four_at;
@@ -15,31 +20,31 @@ pub fn kind(e: &[u8]) -> usize
     ensures { λ r. ⌜ r ≡ kindNumber (readEntry (now (e .entry))) ⌝ }
 {
     let code = byte_at(e, 0);
-    if code < 2 {
+    if code < DIRECTORY {
         return code;
     }
-    2
+    DIRECTORY
 }
 
 pub fn is_used(e: &[u8]) -> bool
     requires { ⌜ 68 ≤ length (now e) ⌝ }
     ensures { λ r. ⌜ r ≡ isUsed (readEntry (now (e .entry))) ⌝ }
 {
-    kind(e) != 0
+    kind(e) != FREE
 }
 
 pub fn is_file(e: &[u8]) -> bool
     requires { ⌜ 68 ≤ length (now e) ⌝ }
     ensures { λ r. ⌜ r ≡ isFile (readEntry (now (e .entry))) ⌝ }
 {
-    kind(e) == 1
+    kind(e) == FILE
 }
 
 pub fn is_directory(e: &[u8]) -> bool
     requires { ⌜ 68 ≤ length (now e) ⌝ }
     ensures { λ r. ⌜ r ≡ isDirectory (readEntry (now (e .entry))) ⌝ }
 {
-    kind(e) == 2
+    kind(e) == DIRECTORY
 }
 
 // The parent's number; 0 of a free entry.
@@ -70,7 +75,7 @@ pub fn contents(e: &[u8]) -> &[u8]
     ensures { λ r. ⌜ now r ≡ contentsOf (readEntry (now (e .entry))) ⌝ }
 {
     if is_file(e) {
-        return stretch_of(e, 68, four_at(e, 64));
+        return stretch_of(e, DATA_AT, four_at(e, LENGTH_AT));
     }
     &e[..0]
 }

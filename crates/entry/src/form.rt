@@ -1,9 +1,15 @@
 // The form of one entry's bytes (document 01, "Geometry and stored form").
 ghost use mathlib.Core.Path.{_≡_};
-ghost use Prim.Native.Nat.{_+_, _*_, _≤_};
+ghost use Prim.Native.Nat.{_≤_};
 ghost use lib.ListN.{length};
 ghost use Rattle.entry.specs.Stored.{entryBytes};
 ghost use Rattle.entry.specs.Check.{nameFormed, dataFormed, entryFormed, rootFormed};
+use crate::BLOCK;
+use crate::DATA_AT;
+use crate::DIRECTORY;
+use crate::FILE;
+use crate::FREE;
+use crate::LENGTH_AT;
 use crate::zero::all_zero;
 use names::NameText;
 use names::name_text;
@@ -21,7 +27,7 @@ fn name_formed(e: &[u8]) -> bool
     }
     let end = 4 + len;
     match name_text(&e[4..end]) {
-        NameText::Fine => all_zero(&e[end..64]),
+        NameText::Fine => all_zero(&e[end..LENGTH_AT]),
         NameText::Bad => false,
         NameText::Long => false,
     }
@@ -32,11 +38,11 @@ fn data_formed(e: &[u8], b: usize) -> bool
     requires { ⌜ (b ≤ 64) × (length (now e) ≡ entryBytes b) ⌝ }
     ensures { λ r. ⌜ r ≡ dataFormed b (now (e .entry)) ⌝ }
 {
-    let len = four_at(e, 64);
-    if 1024 * b < len {
+    let len = four_at(e, LENGTH_AT);
+    if BLOCK * b < len {
         return false;
     }
-    all_zero(&e[68 + len..])
+    all_zero(&e[DATA_AT + len..])
 }
 
 // Whether an entry other than the root is well formed by itself.
@@ -45,17 +51,17 @@ pub fn entry_formed(e: &[u8], b: usize) -> bool
     ensures { λ r. ⌜ r ≡ entryFormed b (now (e .entry)) ⌝ }
 {
     let kind = byte_at(e, 0);
-    if kind == 0 {
+    if kind == FREE {
         return all_zero(e);
     }
-    if 2 < kind {
+    if DIRECTORY < kind {
         return false;
     }
     if name_formed(e) {
-        if kind == 1 {
+        if kind == FILE {
             return data_formed(e, b);
         }
-        return all_zero(&e[64..]);
+        return all_zero(&e[LENGTH_AT..]);
     }
     false
 }

@@ -26,8 +26,8 @@ parentsFormed v = every (length v) (parented v)
 abbrev pub Gathered : Volume → List ℕ → Type 0
 Gathered v l = (i : ℕ) → getD l i 0 ≡ parentOf (entryAt v i)
 
-abbrev pub Below : List ℕ → Type 0
-Below l = (i : ℕ) → getD l i 0 < 256
+abbrev pub Numbers : List ℕ → Type 0
+Numbers l = (i : ℕ) → getD l i 0 < 256
 
 -- "the parents lead to 0", by a list of every entry's parent
 unfoldable pub climbsBy : ℕ → List ℕ → ℕ → Bool

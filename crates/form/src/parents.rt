@@ -3,7 +3,7 @@ ghost use mathlib.Core.Path.{_≡_};
 ghost use Prim.Native.Nat.{_≤_, _<_};
 ghost use Rattle.volume.specs.Stored.{readVolume};
 ghost use Rattle.volume.specs.Lent.{Lent};
-ghost use Rattle.form.specs.Checks.{Gathered, Below, parented, parentsFormed, climbsBy, allLead};
+ghost use Rattle.form.specs.Checks.{Gathered, Numbers, parented, parentsFormed, climbsBy, allLead};
 use entry::field::is_directory;
 use entry::field::is_used;
 use entry::field::parent;
@@ -62,7 +62,7 @@ pub fn parents_of(s: &[u8], n: usize, b: usize) -> [usize; 256]
 // Whether an entry's parents lead to 0 in at most n steps.
 fn leads(parents: &[usize; 256], n: usize, i: usize) -> bool
     requires { ⌜ i < 256 ⌝ }
-    requires { ⌜ Below (now parents) ⌝ }
+    requires { ⌜ Numbers (now parents) ⌝ }
     ensures { λ r. ⌜ r ≡ climbsBy n (now (parents .entry)) i ⌝ }
 {
     let mut at = i;
@@ -80,7 +80,7 @@ fn leads(parents: &[usize; 256], n: usize, i: usize) -> bool
 // Whether every entry's parents lead to 0: at most n² steps.
 pub fn all_lead(parents: &[usize; 256], n: usize) -> bool
     requires { ⌜ n ≤ 256 ⌝ }
-    requires { ⌜ Below (now parents) ⌝ }
+    requires { ⌜ Numbers (now parents) ⌝ }
     ensures { λ r. ⌜ r ≡ allLead n (now (parents .entry)) ⌝ }
 {
     let mut i = 0;

@@ -13,9 +13,9 @@ use Rattle.names.specs.declared.PathText.the-variants.{Bad as BadPath, Root, Co
 use Rattle.names.specs.Name.{nameTextOf}
 use Rattle.names.specs.Path.{pathTextOf, components}
 use Rattle.entry.specs.Entry.{Entry, free, file, directory, isDirectory, kindNumber, contentsOf, usage}
-use Rattle.volume.specs.Volume.{Volume, entryAt, search, isChild}
+use Rattle.volume.specs.Volume.{Volume, entryAt, search}
 use Rattle.questions.specs.Way.{Way, found, refused, wayOf, walk}
-use Rattle.questions.specs.Listing.{listed, listing, filled}
+use Rattle.questions.specs.Listing.{listing, filled}
 use Rattle.questions.specs.declared.object.Object.{Object}
 use Rattle.questions.specs.declared.object.Object.the-variants.{File, Directory, BadNumber, Free}
 use Rattle.questions.specs.declared.object.Stat.{Stat}
@@ -46,6 +46,18 @@ statOf Directory e = Is (kindNumber e) (length (contentsOf e)) (usage (length (c
 unfoldable pub statAnswer : Volume → ℕ → Stat
 statAnswer v o = statOf (objectAnswer v o) (entryAt v o)
 
+-- document 01's number for each answer, and the results besides: zeros with a refusal
+abbrev pub objectNumber : Object → ℕ
+objectNumber File = 0
+objectNumber Directory = 0
+objectNumber BadNumber = 7
+objectNumber Free = 8
+
+abbrev pub statResults : Stat → List ℕ
+statResults (Is k l u) = k ∷ l ∷ u ∷ []
+statResults StatBadNumber = 0 ∷ 0 ∷ 0 ∷ []
+statResults StatNoObject = 0 ∷ 0 ∷ 0 ∷ []
+
 abbrev pub statNumber : Stat → ℕ
 statNumber (Is k l u) = 0
 statNumber StatBadNumber = 7
@@ -73,16 +85,19 @@ readLeft BadRange s own = own
 unfoldable pub readLeaves : Volume → ℕ → ℕ → List ℕ → List ℕ
 readLeaves v o f own = readLeft (readAnswer v o f own) (take (length own) (drop f (contentsOf (entryAt v o)))) own
 
+abbrev pub readResults : Copied → List ℕ
+readResults (CopiedBytes k) = k ∷ []
+readResults ReadBadNumber = 0 ∷ []
+readResults ReadNoObject = 0 ∷ []
+readResults ReadWrongKind = 0 ∷ []
+readResults BadRange = 0 ∷ []
+
 abbrev pub readNumber : Copied → ℕ
 readNumber (CopiedBytes k) = 0
 readNumber ReadBadNumber = 7
 readNumber ReadNoObject = 8
 readNumber ReadWrongKind = 9
 readNumber BadRange = 12
-
--- what is listed of an entry: nothing, if it is no child
-abbrev pub listedAt : Volume → ℕ → ℕ → List ℕ
-listedAt v d i = cond (isChild v d i) (listed i (entryAt v i)) []
 
 -- "19 Short buffer: list does not fit"
 abbrev pub listOf : Object → List ℕ → List ℕ → Listed
@@ -104,6 +119,13 @@ listLeft Short s own = own
 
 unfoldable pub listLeaves : Volume → ℕ → List ℕ → List ℕ
 listLeaves v o own = listLeft (listAnswer v o own) (listing v o (length v)) own
+
+abbrev pub listResults : Listed → List ℕ
+listResults (ListedBytes k) = k ∷ []
+listResults ListBadNumber = 0 ∷ []
+listResults ListNoObject = 0 ∷ []
+listResults ListWrongKind = 0 ∷ []
+listResults Short = 0 ∷ []
 
 abbrev pub listNumber : Listed → ℕ
 listNumber (ListedBytes k) = 0
@@ -148,13 +170,27 @@ unfoldable pub marked : List ℕ → List ℕ → List ℕ
 marked [] m = m
 marked (o ∷ l) m = marked l (set m o 1)
 
+abbrev pub reachedNumber : Reached → ℕ
+reachedNumber (Found o) = 0
+reachedNumber BadName = 5
+reachedNumber LongName = 6
+reachedNumber NoObject = 8
+reachedNumber WrongKind = 9
+
+abbrev pub reachedResults : Reached → List ℕ
+reachedResults (Found o) = o ∷ []
+reachedResults BadName = 0 ∷ []
+reachedResults LongName = 0 ∷ []
+reachedResults NoObject = 0 ∷ []
+reachedResults WrongKind = 0 ∷ []
+
 -- where an answer says that a path leads
 abbrev pub wayFrom : Reached → List ℕ → Way
 wayFrom (Found o) l = found o l
-wayFrom BadName l = refused 5
-wayFrom LongName l = refused 6
-wayFrom NoObject l = refused 8
-wayFrom WrongKind l = refused 9
+wayFrom BadName l = refused (reachedNumber BadName)
+wayFrom LongName l = refused (reachedNumber LongName)
+wayFrom NoObject l = refused (reachedNumber NoObject)
+wayFrom WrongKind l = refused (reachedNumber WrongKind)
 
 -- the answer tells where the path leads, and the marks gain the objects searched and found
 pub record Looked (v : Volume) (path : List ℕ) (before after : List ℕ) (r : Reached) : Type 0 where

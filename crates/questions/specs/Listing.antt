@@ -11,9 +11,13 @@ use Rattle.volume.specs.Volume.{Volume, entryAt, isChild}
 abbrev pub listed : ℕ → Entry → List ℕ
 listed i e = bytes 2 i ++ (bytes 1 (kindNumber e) ++ (bytes 1 (length (nameOf e)) ++ nameOf e))
 
+-- what is listed of an entry: nothing, if it is no child
+abbrev pub listedAt : Volume → ℕ → ℕ → List ℕ
+listedAt v d i = cond (isChild v d i) (listed i (entryAt v i)) []
+
 unfoldable pub listing : Volume → ℕ → ℕ → List ℕ
 listing v d zero = []
-listing v d (suc k) = listing v d k ++ cond (isChild v d k) (listed k (entryAt v k)) []
+listing v d (suc k) = listing v d k ++ listedAt v d k
 
 -- "List and take also fill their buffer from the start and leave the rest."
 abbrev pub filled : List ℕ → List ℕ → List ℕ

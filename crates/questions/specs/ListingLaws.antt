@@ -15,8 +15,7 @@ use Rattle.entry.specs.Entry.{Entry, nameOf, isUsed}
 use Rattle.entry.specs.Stored.{readEntry}
 use Rattle.entry.specs.FieldLaws.{used-fields, unused-fields}
 use Rattle.volume.specs.Volume.{Volume}
-use Rattle.questions.specs.Listing.{listed, listing}
-use Rattle.questions.specs.Answer.{listedAt}
+use Rattle.questions.specs.Listing.{listed, listing, listedAt}
 
 -- The name that an entry's bytes tell of is no longer than the byte of its length says.
 pub name-below : (s : List ℕ) → length (nameOf (readEntry s)) ≤ getD s 1 0

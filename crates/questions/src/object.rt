@@ -3,6 +3,8 @@ ghost use mathlib.Core.Path.{_≡_};
 ghost use Rattle.volume.specs.Stored.{readVolume};
 ghost use Rattle.volume.specs.Lent.{Lent};
 ghost use Rattle.questions.specs.Answer.{objectAnswer, statAnswer};
+use entry::FILE;
+use entry::FREE;
 use entry::field::contents;
 use entry::field::kind;
 use entry::field::usage_of;
@@ -32,10 +34,10 @@ pub fn object_at(s: &[u8], n: usize, b: usize, o: usize) -> Object
         return Object::BadNumber;
     }
     let code = kind(entry(s, n, b, o));
-    if code == 0 {
+    if code == FREE {
         return Object::Free;
     }
-    if code == 1 {
+    if code == FILE {
         return Object::File;
     }
     Object::Directory
@@ -51,7 +53,7 @@ pub fn stat_of(s: &[u8], n: usize, b: usize, o: usize) -> Stat
     }
     let e = entry(s, n, b, o);
     let code = kind(e);
-    if code == 0 {
+    if code == FREE {
         return Stat::NoObject;
     }
     let len = contents(e).len();

@@ -1,5 +1,4 @@
 -- What acceptance means, for every call: whatever it issues applies to the view that it met, and can be recorded.
-use Prim.Native.Nat.{ℕ}
 use mathlib.Core.Path.{_≡_}
 use mathlib.Core.List.{List, [], _∷_}
 use Rattle.records.specs.Operation.{Operation}

@@ -1,106 +1,106 @@
--- What list, stat and read refuse from 7 on, and what they answer, is what the questions of a volume answer: their numbers, and
--- their buffers.
+-- Lookup, list, stat and read answer what the questions of the view answer, by their numbers and results, where the program's
+-- number is good and it is not marked.
 -- Assumes nothing.
 use Prim.Native.Nat.{ℕ}
-use mathlib.Core.Path.{_≡_, refl, _∙_}
+use mathlib.Core.Path.{_≡_, refl, ap, _∙_}
 use mathlib.Core.Bool.{Bool, true, false, not, cond}
 use mathlib.Core.List.{List, [], _∷_}
-use lib.ListN.{length, take, drop}
+use lib.ListN.{length}
 use lib.Dec.{ltb, eqb}
+use Rattle.names.specs.Path.{pathTextOf}
 use Rattle.entry.specs.Entry.{Entry, free, file, directory, isUsed, isFile, isDirectory, contentsOf}
-use Rattle.volume.specs.Volume.{Volume, entryAt}
+use Rattle.volume.specs.Volume.{entryAt}
 use Rattle.log.specs.Programs.{holds}
-use Rattle.questions.specs.declared.reading.Copied.{Copied}
-use Rattle.questions.specs.declared.reading.Copied.the-variants.{Bytes as CopiedBytes, BadNumber as ReadBadNumber, NoObject as ReadNoObject, WrongKind as ReadWrongKind, BadRange}
-use Rattle.questions.specs.declared.listing.Listed.{Listed}
-use Rattle.questions.specs.declared.listing.Listed.the-variants.{Bytes as ListedBytes, BadNumber as ListBadNumber, NoObject as ListNoObject, WrongKind as ListWrongKind, Short}
-use Rattle.questions.specs.Listing.{listing, filled}
-use Rattle.questions.specs.Answer.{objectAnswer, statAnswer, statNumber, readAnswer, readLeft, readLeaves, readNumber, listAnswer, listLeft, listLeaves, listNumber}
+use Rattle.log.specs.Change.{note}
+use Rattle.questions.specs.declared.lookup.Reached.{Reached}
+use Rattle.questions.specs.declared.lookup.Reached.the-variants.{Found, BadName, LongName, NoObject, WrongKind}
+use Rattle.questions.specs.Listing.{listing}
+use Rattle.questions.specs.Answer.{objectAnswer, statAnswer, statNumber, statResults, readAnswer, readLeaves, readNumber, readResults, listAnswer, listLeaves, listNumber, listResults, searchedBy, wayFrom, reachedNumber, reachedResults, Looked}
+use Rattle.session.specs.Call.{Answer, answer}
 use Rattle.session.specs.Refusal.{Row, row, firstOf}
-use Rattle.session.specs.Model.{Model}
-use Rattle.session.specs.Question.{objectRows}
+use Rattle.session.specs.Model.{Model, model, Outcome}
+use Rattle.session.specs.Question.{objectRows, followed, lookupOf, listOf, statOf, readOf}
 
--- where the program's number is good and it is not marked
-module _ (x : Model) (p o : ℕ) (g : ltb p 32 ≡ true) (m : holds (x .log .marks) p ≡ false) where
-  -- the refusals of an object's number, and the rest of the table
-  rows : (l : List Row) (b : Bool) (e : Entry) → ltb o (length (x .view)) ≡ b → entryAt (x .view) o ≡ e
-      → firstOf (objectRows x p o l) ≡ cond b (cond (isUsed e) (firstOf l) 8) 7
-  unfolding firstOf
-  rows l true free q r = rw (g, m, q, r)
-  rows l true (file n d c) q r = rw (g, m, q, r)
-  rows l true (directory n d) q r = rw (g, m, q, r)
-  rows l false e q r = rw (g, m, q)
+-- an answer of a question: accepted, it brings dependence; refused, it leaves everything as it was
+abbrev pub asked : ℕ → List ℕ → Answer → Model → Outcome
+asked p ops a x =
+    record { gives = a; leaves = cond (eqb (a .returned) 0) (model (x .server) (x .view) (note p ops (x .log))) x }
 
-  -- Stat's number.
-  pub stat-number : firstOf (objectRows x p o []) ≡ statNumber (statAnswer (x .view) o)
-  unfolding firstOf statAnswer objectAnswer
-  stat-number = go (ltb o (length (x .view))) (entryAt (x .view) o) refl refl
-    where
-      go : (b : Bool) (e : Entry) → ltb o (length (x .view)) ≡ b → entryAt (x .view) o ≡ e
-          → firstOf (objectRows x p o []) ≡ statNumber (statAnswer (x .view) o)
-      go true free q r = rows [] true free q r ∙ rw (q, r)
-      go true (file n d c) q r = rows [] true (file n d c) q r ∙ rw (q, r)
-      go true (directory n d) q r = rows [] true (directory n d) q r ∙ rw (q, r)
-      go false e q r = rows [] false e q r ∙ rw q
+module _ (x : Model) (p : ℕ) (g : ltb p 32 ≡ true) (m : holds (x .log .marks) p ≡ false) where
+  module _ (o : ℕ) where
+    -- the refusals of an object's number, and the rest of the table
+    rows : (l : List Row) (b : Bool) (e : Entry) → ltb o (length (x .view)) ≡ b → entryAt (x .view) o ≡ e
+        → firstOf (objectRows x p o l) ≡ cond b (cond (isUsed e) (firstOf l) 8) 7
+    unfolding firstOf
+    rows l true free q r = rw (g, m, q, r)
+    rows l true (file n d c) q r = rw (g, m, q, r)
+    rows l true (directory n d) q r = rw (g, m, q, r)
+    rows l false e q r = rw (g, m, q)
 
-  -- List's number.
-  pub list-number : (own : List ℕ)
-      → firstOf (objectRows x p o (row 9 (not (isDirectory (entryAt (x .view) o))) ∷ row 19 (ltb (length own) (length (listing (x .view) o (length (x .view))))) ∷ []))
-      ≡ listNumber (listAnswer (x .view) o own)
-  unfolding firstOf listAnswer objectAnswer
-  list-number own = go (ltb o (length (x .view))) (entryAt (x .view) o) (ltb (length own) (length (listing (x .view) o (length (x .view))))) refl refl refl
-    where
-      rest : List Row
-      rest = row 9 (not (isDirectory (entryAt (x .view) o))) ∷ row 19 (ltb (length own) (length (listing (x .view) o (length (x .view))))) ∷ []
+    -- Stat.
+    pub stat-asked : statOf p o x ≡ asked p (o ∷ []) (answer (statNumber (statAnswer (x .view) o)) (statResults (statAnswer (x .view) o)) []) x
+    unfolding firstOf statOf statAnswer objectAnswer
+    stat-asked = go (ltb o (length (x .view))) (entryAt (x .view) o) refl refl
+      where
+        go : (b : Bool) (e : Entry) → ltb o (length (x .view)) ≡ b → entryAt (x .view) o ≡ e
+            → statOf p o x ≡ asked p (o ∷ []) (answer (statNumber (statAnswer (x .view) o)) (statResults (statAnswer (x .view) o)) []) x
+        go true free q r = rw (rows [] true free q r, q, r)
+        go true (file n d c) q r = rw (rows [] true (file n d c) q r, q, r)
+        go true (directory n d) q r = rw (rows [] true (directory n d) q r, q, r)
+        go false e q r = rw (rows [] false e q r, q)
 
-      go : (b : Bool) (e : Entry) (u : Bool) → ltb o (length (x .view)) ≡ b → entryAt (x .view) o ≡ e
-          → ltb (length own) (length (listing (x .view) o (length (x .view)))) ≡ u → firstOf (objectRows x p o rest) ≡ listNumber (listAnswer (x .view) o own)
-      go true free u q r h = rows rest true free q r ∙ rw (q, r)
-      go true (file n d c) u q r h = rows rest true (file n d c) q r ∙ rw (q, r)
-      go true (directory n d) true q r h = rows rest true (directory n d) q r ∙ rw (q, r, h)
-      go true (directory n d) false q r h = rows rest true (directory n d) q r ∙ rw (q, r, h)
-      go false e u q r h = rows rest false e q r ∙ rw q
+    -- List, with the bytes that it leaves in its buffer.
+    pub list-asked : (own : List ℕ)
+        → listOf p o own x
+        ≡ asked p (o ∷ []) (answer (listNumber (listAnswer (x .view) o own)) (listResults (listAnswer (x .view) o own)) (listLeaves (x .view) o own)) x
+    unfolding firstOf listOf listAnswer listLeaves objectAnswer
+    list-asked own =
+        go (ltb o (length (x .view))) (entryAt (x .view) o) (ltb (length own) (length (listing (x .view) o (length (x .view))))) refl refl refl
+      where
+        rest : List Row
+        rest = row 9 (not (isDirectory (entryAt (x .view) o))) ∷ row 19 (ltb (length own) (length (listing (x .view) o (length (x .view))))) ∷ []
 
-  -- Read's number.
-  pub read-number : (f : ℕ) (own : List ℕ)
-      → firstOf (objectRows x p o (row 9 (not (isFile (entryAt (x .view) o))) ∷ row 12 (ltb (length (contentsOf (entryAt (x .view) o))) f) ∷ []))
-      ≡ readNumber (readAnswer (x .view) o f own)
-  unfolding firstOf readAnswer objectAnswer
-  read-number f own = go (ltb o (length (x .view))) (entryAt (x .view) o) (ltb (length (contentsOf (entryAt (x .view) o))) f) refl refl refl
-    where
-      rest : List Row
-      rest = row 9 (not (isFile (entryAt (x .view) o))) ∷ row 12 (ltb (length (contentsOf (entryAt (x .view) o))) f) ∷ []
+        go : (b : Bool) (e : Entry) (u : Bool) → ltb o (length (x .view)) ≡ b → entryAt (x .view) o ≡ e
+            → ltb (length own) (length (listing (x .view) o (length (x .view)))) ≡ u
+            → listOf p o own x
+            ≡ asked p (o ∷ []) (answer (listNumber (listAnswer (x .view) o own)) (listResults (listAnswer (x .view) o own)) (listLeaves (x .view) o own)) x
+        go true free u q r h = rw (rows rest true free q r, q, r)
+        go true (file n d c) u q r h = rw (rows rest true (file n d c) q r, q, r)
+        go true (directory n d) true q r h = rw (rows rest true (directory n d) q r, q, r, h)
+        go true (directory n d) false q r h = rw (rows rest true (directory n d) q r, q, r, h)
+        go false e u q r h = rw (rows rest false e q r, q)
 
-      go : (b : Bool) (e : Entry) (u : Bool) → ltb o (length (x .view)) ≡ b → entryAt (x .view) o ≡ e
-          → ltb (length (contentsOf (entryAt (x .view) o))) f ≡ u → firstOf (objectRows x p o rest) ≡ readNumber (readAnswer (x .view) o f own)
-      go true free u q r h = rows rest true free q r ∙ rw (q, r)
-      go true (directory n d) u q r h = rows rest true (directory n d) q r ∙ rw (q, r)
-      go true (file n d c) true q r h = let k : ltb (length c) f ≡ true = rw r at h in rows rest true (file n d c) q r ∙ rw (q, r, k)
-      go true (file n d c) false q r h = let k : ltb (length c) f ≡ false = rw r at h in rows rest true (file n d c) q r ∙ rw (q, r, k)
-      go false e u q r h = rows rest false e q r ∙ rw q
+    -- Read, with the bytes that it leaves in its buffer.
+    pub read-asked : (f : ℕ) (own : List ℕ)
+        → readOf p o f own x
+        ≡ asked p (o ∷ []) (answer (readNumber (readAnswer (x .view) o f own)) (readResults (readAnswer (x .view) o f own)) (readLeaves (x .view) o f own)) x
+    unfolding firstOf readOf readAnswer readLeaves objectAnswer
+    read-asked f own =
+        go (ltb o (length (x .view))) (entryAt (x .view) o) (ltb (length (contentsOf (entryAt (x .view) o))) f) refl refl refl
+      where
+        rest : List Row
+        rest = row 9 (not (isFile (entryAt (x .view) o))) ∷ row 12 (ltb (length (contentsOf (entryAt (x .view) o))) f) ∷ []
 
--- What list leaves in its buffer: filled where it is accepted, as it was where it is refused.
-list-left : (r : Listed) (s own : List ℕ) → listLeft r s own ≡ cond (eqb (listNumber r) 0) (filled own s) own
-list-left (ListedBytes k) s own = refl
-list-left ListBadNumber s own = refl
-list-left ListNoObject s own = refl
-list-left ListWrongKind s own = refl
-list-left Short s own = refl
+        go : (b : Bool) (e : Entry) (u : Bool) → ltb o (length (x .view)) ≡ b → entryAt (x .view) o ≡ e
+            → ltb (length (contentsOf (entryAt (x .view) o))) f ≡ u
+            → readOf p o f own x
+            ≡ asked p (o ∷ []) (answer (readNumber (readAnswer (x .view) o f own)) (readResults (readAnswer (x .view) o f own)) (readLeaves (x .view) o f own)) x
+        go true free u q r h = rw (rows rest true free q r, q, r)
+        go true (directory n d) u q r h = rw (rows rest true (directory n d) q r, q, r)
+        go true (file n d c) true q r h = let k : ltb (length c) f ≡ true = rw r at h in rw (rows rest true (file n d c) q r, q, r, k)
+        go true (file n d c) false q r h = let k : ltb (length c) f ≡ false = rw r at h in rw (rows rest true (file n d c) q r, q, r, k)
+        go false e u q r h = rw (rows rest false e q r, q)
 
-pub list-leaves : (v : Volume) (o : ℕ) (own : List ℕ)
-    → listLeaves v o own ≡ cond (eqb (listNumber (listAnswer v o own)) 0) (filled own (listing v o (length v))) own
-unfolding listLeaves
-list-leaves v o own = list-left (listAnswer v o own) (listing v o (length v)) own
+  -- what follows a way that an answer tells of
+  follows : (r : Reached) (l : List ℕ) → followed p x (wayFrom r l) ≡ asked p l (answer (reachedNumber r) (reachedResults r) []) x
+  follows (Found o) l = refl
+  follows BadName l = refl
+  follows LongName l = refl
+  follows NoObject l = refl
+  follows WrongKind l = refl
 
--- What read leaves in its buffer.
-read-left : (r : Copied) (s own : List ℕ) → readLeft r s own ≡ cond (eqb (readNumber r) 0) (filled own s) own
-read-left (CopiedBytes k) s own = refl
-read-left ReadBadNumber s own = refl
-read-left ReadNoObject s own = refl
-read-left ReadWrongKind s own = refl
-read-left BadRange s own = refl
-
-pub read-leaves : (v : Volume) (o f : ℕ) (own : List ℕ)
-    → readLeaves v o f own ≡ cond (eqb (readNumber (readAnswer v o f own)) 0) (filled own (take (length own) (drop f (contentsOf (entryAt v o))))) own
-unfolding readLeaves
-read-leaves v o f own = read-left (readAnswer v o f own) (take (length own) (drop f (contentsOf (entryAt v o)))) own
+  -- Lookup, with the objects that it searches and finds as its operands.
+  pub lookup-asked : (path before after : List ℕ) (r : Reached) → Looked (x .view) path before after r
+      → lookupOf p path x ≡ asked p (searchedBy (x .view) path (pathTextOf path)) (answer (reachedNumber r) (reachedResults r) []) x
+  unfolding firstOf lookupOf
+  lookup-asked path before after r h = rw (g, m) (ap (followed p x) (h .way) ∙ follows r (searchedBy (x .view) path (pathTextOf path)))

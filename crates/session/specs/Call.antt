@@ -1,8 +1,8 @@
 -- Document 01, "Calls": the calls with their arguments (the three buffers apart), what each answers, and what they are
 -- lent.
-use Prim.Native.Nat.{ℕ, _+_, _*_}
-use mathlib.Core.List.{List, [], _∷_}
-use mathlib.Core.Bool.{Bool, true, false, _&&_}
+use Prim.Native.Nat.{ℕ}
+use mathlib.Core.List.{List, []}
+use mathlib.Core.Bool.{Bool, _&&_}
 use lib.ListN.{length}
 use lib.Dec.{leb, eqb}
 use Rattle.volume.specs.Stored.{volumeBytes}

@@ -1,18 +1,17 @@
 -- Document 01, "Calls": create, make directory, remove, rename, write, set length and forder.
 use Prim.Native.Nat.{ℕ, _+_, _*_, _%_}
-use mathlib.Core.List.{List, [], _∷_, _++_}
-use mathlib.Core.Bool.{Bool, true, false, not, _&&_, _||_, cond}
+use mathlib.Core.List.{List, [], _∷_}
+use mathlib.Core.Bool.{Bool, false, not, _&&_, _||_}
 use mathlib.Core.Option.{Option, none, some}
-use lib.ListN.{length, take, drop}
-use lib.Dec.{leb, ltb, eqb}
+use lib.ListN.{length}
+use lib.Dec.{ltb, eqb}
 use Rattle.names.specs.Name.{nameTextOf}
-use Rattle.records.specs.Operation.{Operation}
 use Rattle.records.specs.Fields.{different}
 use Rattle.records.specs.Reader.{objectsOf}
-use Rattle.entry.specs.Entry.{Entry, isUsed, isFile, isDirectory, kindNumber, contentsOf}
+use Rattle.entry.specs.Entry.{isUsed, isFile, isDirectory, kindNumber, contentsOf}
 use Rattle.volume.specs.Volume.{Volume, entryAt, search, hasChildren}
-use Rattle.volume.specs.Apply.{isAbsent, isAt}
-use Rattle.session.specs.Call.{Geometry, Call, createFile, makeDirectory, remove, rename, write, setLength, forder}
+use Rattle.volume.specs.Apply.{isAbsent}
+use Rattle.session.specs.Call.{Geometry, Call, remove, rename, write, setLength, forder}
 use Rattle.session.specs.Issue.{objectOr0, displacedBy, issues}
 use Rattle.session.specs.Refusal.{Row, row, firstOf}
 use Rattle.session.specs.Model.{Model, Outcome, unless, badProgram, marked, isBad, isLong, outside, isFree, full, spent, issued}

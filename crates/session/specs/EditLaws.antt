@@ -1,5 +1,5 @@
 -- What acceptance means: an accepted change applies to the view that it met, and its record can be written.
-use Prim.Native.Nat.{ℕ, zero, suc, _+_, _*_, _/_, _%_, _^_, _≤_, _<_}
+use Prim.Native.Nat.{ℕ, zero, suc, _+_, _*_, _%_, _≤_, _<_}
 use native.Mathlib.Omega.{arith}
 use mathlib.Core.Path.{_≡_, refl, sym, ap, _∙_, subst}
 use mathlib.Core.Logic.{_⊎_, inl, inr}
@@ -8,29 +8,29 @@ use mathlib.Core.Bool.{Bool, true, false, not, _&&_, _||_, cond, and-eq-true-iff
 use mathlib.Core.Option.{Option, none, some}
 use lib.ListN.{length}
 use lib.Dec.{leb, ltb, eqb}
-use borrow.Author.Tests.{leb-true, leb-false, ltb-true, ltb-false, eqb-true, eqb-false, eq-eqb, le-leb, lt-ltb, not-true, not-false}
+use borrow.Author.Tests.{leb-true, leb-false, ltb-true, ltb-false, eqb-false, eq-eqb, le-leb, lt-ltb, not-true, not-false}
 use Rattle.names.specs.declared.NameText.{NameText}
 use Rattle.names.specs.declared.NameText.the-variants.{Fine, Bad, Long}
 use Rattle.names.specs.Name.{validName, nameTextOf}
 use Rattle.names.specs.NameLaws.{fine-valid}
 use Rattle.records.specs.Operation.{Operation}
-use Rattle.records.specs.Fields.{validList, different, allUpTo, allBelow, between}
+use Rattle.records.specs.Fields.{validList, different, allUpTo, allBelow}
 use Rattle.records.specs.Reader.{objectsOf}
 use Rattle.records.specs.ListLaws.{count-objects}
-use Rattle.entry.specs.Entry.{Entry, free, file, directory, isUsed, isFile, isDirectory, kindNumber, contentsOf}
-use Rattle.volume.specs.Volume.{Volume, entryAt, search, hasChildren, isChild, isNamed}
+use Rattle.entry.specs.Entry.{directory, isUsed, isFile, isDirectory, kindNumber, contentsOf}
+use Rattle.volume.specs.Volume.{Volume, entryAt, search, isChild, isNamed}
 use Rattle.volume.specs.Form.{wellFormed}
-use Rattle.volume.specs.FormLaws.{Good, well-formed-inv, lowest-some}
-use Rattle.volume.specs.Apply.{applies, isAbsent, isAt, leads, hasRoom, stays, yields}
+use Rattle.volume.specs.FormLaws.{well-formed-inv, lowest-some}
+use Rattle.volume.specs.Apply.{applies, isAbsent, isAt, hasRoom, yields}
 use Rattle.log.specs.Programs.{holds}
 use Rattle.log.specs.Slot.{Log}
 use Rattle.log.specs.Slot
 use Rattle.log.specs.SlotLaws.{formed-inv}
 use Rattle.session.specs.Call.{Geometry, Call, createFile, makeDirectory, remove, rename, write, setLength, forder, inRange}
 use Rattle.session.specs.Refusal.{Row, firstOf}
-use Rattle.session.specs.Model.{Model, Outcome, badProgram, marked, isBad, isLong, outside, isFree, full, spent, issued}
+use Rattle.session.specs.Model.{Model, badProgram, marked, isBad, isLong, outside, isFree, full, spent, issued}
 use Rattle.session.specs.Issue.{objectOr0, displacedBy, writes, renames, issues}
-use Rattle.session.specs.Edit.{changed, makeOf, removeOf, renameOf, writeOf, setLengthOf, forderOf, differsInKind, keepsChildren, badRange, badList, any}
+use Rattle.session.specs.Edit.{changed, makeOf, removeOf, renameOf, writeOf, setLengthOf, forderOf, differsInKind, keepsChildren, badRange, any}
 use Rattle.session.specs.RefusalLaws.{Passed, numbered, passed, accepted-first, neither}
 use Rattle.session.specs.IssueLaws.{Recordable, EntryFields, RangeFields, create-recordable, make-recordable, remove-recordable, rename-recordable, replace-recordable, overwrite-recordable, append-recordable, length-recordable, forder-recordable}
 

@@ -2,19 +2,19 @@
 -- the link only where it carries too few.
 use Prim.Native.Nat.{ℕ, _<_}
 use native.Mathlib.Omega.{arith}
-use mathlib.Core.Path.{_≡_, refl, sym, ap, _∙_, subst}
+use mathlib.Core.Path.{_≡_, refl, sym, subst}
 use mathlib.Core.List.{List, [], _∷_}
 use mathlib.Core.Bool.{Bool, true, false, not, cond}
-use mathlib.Core.Option.{Option, none, some}
+use mathlib.Core.Option.{Option, some}
 use lib.ListN.{length, take}
 use lib.Dec.{eqb, leb, ltb}
 use borrow.Author.Tests.{leb-false}
-use Rattle.records.specs.Operation.{Operation, Record}
+use Rattle.records.specs.Operation.{Record}
 use Rattle.volume.specs.Apply.{applies, apply}
 use Rattle.log.specs.Programs.{holds}
 use Rattle.log.specs.Order.{directWaits, needed}
 use Rattle.log.specs.Change.{sent, discard, note, waitingOf, waitingAt}
-use Rattle.session.specs.Call.{Geometry, Call, answer}
+use Rattle.session.specs.Call.{Call, answer}
 use Rattle.session.specs.Refusal.{Row, row, firstOf}
 use Rattle.session.specs.Model.{Model, model, Outcome, refusedWith, unless, badProgram, marked, outside, isFree, issued}
 use Rattle.session.specs.Issue.{issues}

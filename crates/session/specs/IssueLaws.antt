@@ -1,13 +1,13 @@
 -- When the record of an operation is valid and fits n and b, by kind.
 use Prim.Native.Nat.{ℕ, _+_, _*_, _%_, _≤_, _<_}
 use native.Mathlib.Omega.{arith}
-use mathlib.Core.Path.{_≡_, refl, sym, ap, _∙_}
+use mathlib.Core.Path.{_≡_}
 use mathlib.Core.List.{List, [], _∷_}
-use mathlib.Core.Bool.{Bool, true, false, not, _&&_, _||_, and-eq-true-iff}
-use mathlib.Core.Option.{Option, none, some}
+use mathlib.Core.Bool.{true, _&&_}
+use mathlib.Core.Option.{none, some}
 use lib.ListN.{length}
-use lib.Dec.{leb, ltb, eqb, leb·zero}
-use borrow.Author.Tests.{le-leb, lt-leb, lt-ltb, ne-eqb}
+use lib.Dec.{leb, leb·zero}
+use borrow.Author.Tests.{le-leb, lt-ltb, ne-eqb}
 use Rattle.names.specs.Name.{validName}
 use Rattle.records.specs.Operation.{Operation, createFile, makeDirectory, remove, rename, overwrite, append, setLength, forder, Record, mapOf, operands}
 use Rattle.records.specs.Fields.{parts, valid, validHead, validParts, validObjects, validNames, validRange, validList, tied, differing, inBlock, fits, allBelow}

@@ -15,3 +15,4 @@ pub mod StepLaws
 pub mod SendLaws
 pub mod EffectLaws
 pub mod AskLaws
+pub mod GeometryLaws

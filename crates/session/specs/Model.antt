@@ -1,22 +1,20 @@
 -- What a call works on: the two volumes and the log that the buffers store; and what most calls refuse alike.
-use Prim.Native.Nat.{ℕ, _+_, _*_}
+use Prim.Native.Nat.{ℕ}
 use mathlib.Core.List.{List, [], _∷_}
-use mathlib.Core.Bool.{Bool, true, false, not, _&&_, _||_, cond}
-use mathlib.Core.Option.{Option, none, some}
+use mathlib.Core.Bool.{Bool, true, false, not, cond}
 use lib.ListN.{length, replicate}
 use lib.Dec.{leb, ltb, eqb}
 use Rattle.names.specs.declared.NameText.{NameText}
 use Rattle.names.specs.declared.NameText.the-variants.{Fine, Bad, Long}
-use Rattle.names.specs.Name.{nameTextOf}
 use Rattle.records.specs.Operation.{Operation}
-use Rattle.entry.specs.Entry.{Entry, isUsed}
+use Rattle.entry.specs.Entry.{isUsed}
 use Rattle.volume.specs.Volume.{Volume, entryAt}
 use Rattle.volume.specs.Apply.{apply}
 use Rattle.log.specs.Programs.{holds}
 use Rattle.log.specs.Slot.{Log}
 use Rattle.log.specs.Change.{note, issue}
 use Rattle.session.specs.Call.{Geometry, Answer, answer}
-use Rattle.session.specs.Refusal.{Row, row, firstOf}
+use Rattle.session.specs.Refusal.{Row, row}
 
 pub record Model : Type 0 where
   pub server : Volume

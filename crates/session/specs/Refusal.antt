@@ -2,7 +2,7 @@
 -- in rising order; the first condition that holds gives the number.
 use Prim.Native.Nat.{ℕ}
 use mathlib.Core.List.{List, [], _∷_}
-use mathlib.Core.Bool.{Bool, true, false, cond}
+use mathlib.Core.Bool.{Bool, cond}
 
 pub record Row : Type 0 where
   pub holds : Bool

@@ -1,12 +1,11 @@
 -- What it means that a table of refusals lets a call pass.
 use Prim.Native.Nat.{ℕ}
 use native.Mathlib.Omega.{arith}
-use mathlib.Core.Path.{_≡_, refl, sym, ap, _∙_}
+use mathlib.Core.Path.{_≡_, refl}
 use mathlib.Core.List.{List, [], _∷_}
 use mathlib.Core.Bool.{Bool, true, false, not, _&&_, _||_, cond, and-eq-true-iff}
 use lib.Dec.{eqb}
 use borrow.Author.Tests.{eqb-true, eqb-false, eq-eqb, not-true}
-use Rattle.session.specs.Call.{Answer}
 use Rattle.session.specs.Refusal.{Row, firstOf}
 use Rattle.session.specs.Model.{Model, Outcome, unless}
 

@@ -1,19 +1,19 @@
 -- Document 01, "Calls": push, fsync, cut, take and renew.
-use Prim.Native.Nat.{ℕ, zero, suc, _+_}
-use mathlib.Core.List.{List, [], _∷_, _++_}
-use mathlib.Core.Bool.{Bool, true, false, not, _&&_, _||_, cond}
+use Prim.Native.Nat.{ℕ, _+_}
+use mathlib.Core.List.{List, [], _∷_}
+use mathlib.Core.Bool.{Bool, true, false, not, cond}
 use mathlib.Core.Option.{Option, none, some}
 use lib.ListN.{length, take}
-use lib.Dec.{leb, ltb, eqb}
-use Rattle.records.specs.Operation.{Operation, Record}
+use lib.Dec.{leb, ltb}
+use Rattle.records.specs.Operation.{Record}
 use Rattle.records.specs.Fields.{encode}
 use Rattle.volume.specs.Volume.{Volume}
 use Rattle.volume.specs.Apply.{applies, apply}
 use Rattle.log.specs.Slot.{Log}
 use Rattle.log.specs.Order.{needed, directWaits}
 use Rattle.log.specs.Change.{note, sent, discard, taken, renewed, waitingOf, waitingAt, earliest, isLossOf}
-use Rattle.session.specs.Call.{Answer, answer}
-use Rattle.session.specs.Refusal.{Row, row, firstOf}
+use Rattle.session.specs.Call.{answer}
+use Rattle.session.specs.Refusal.{row, firstOf}
 use Rattle.session.specs.Model.{Model, model, Outcome, refusedWith, unless, badProgram, marked, outside, isFree}
 use Rattle.questions.specs.Listing.{filled}
 

@@ -1,13 +1,12 @@
 -- Every call leaves the three of the right form, accepted or refused: so no sequence of calls can damage them.
-use Prim.Native.Nat.{ℕ, zero, suc, _+_, _≤_, _<_}
-use native.Mathlib.Omega.{arith}
-use mathlib.Core.Path.{_≡_, refl, sym, ap, _∙_, subst}
+use Prim.Native.Nat.{ℕ, zero, suc, _<_}
+use mathlib.Core.Path.{_≡_, refl, sym, ap, subst}
 use mathlib.Core.Logic.{⊎-elim}
-use mathlib.Core.List.{List, [], _∷_, _++_, List·Memᴰ, List·Memᴰ·head, List·Memᴰ·tail, List·Memᴰ·not-nil, List·Memᴰ·cases-cons}
-use mathlib.Core.Bool.{Bool, true, false, not, _&&_, _||_, cond}
+use mathlib.Core.List.{List, [], _∷_, List·Memᴰ, List·Memᴰ·head, List·Memᴰ·tail, List·Memᴰ·not-nil, List·Memᴰ·cases-cons}
+use mathlib.Core.Bool.{Bool, true, false, cond}
 use mathlib.Core.Option.{Option, none, some}
 use lib.ListN.{length, take}
-use lib.Dec.{leb, ltb, eqb}
+use lib.Dec.{leb, eqb}
 use borrow.Author.Tests.{ltb-true, eqb-true, not-false}
 use Rattle.records.specs.Operation.{Operation, Record}
 use Rattle.names.specs.Path.{pathTextOf}
@@ -20,7 +19,7 @@ use Rattle.volume.specs.ApplyLaws.{apply-good}
 use Rattle.log.specs.Slot.{Log}
 use Rattle.log.specs.Slot
 use Rattle.log.specs.SlotLaws.{formed-inv}
-use Rattle.log.specs.Change.{note, issue, issueOne, sent, discard, taken, renewed, waitingOf, waitingAt}
+use Rattle.log.specs.Change.{note, issue, sent, waitingOf, waitingAt}
 use Rattle.log.specs.ChangeLaws.{note-good, issueOne-good, sent-good, discard-good, taken-good, renewed-good, waiting-good, at-waiting}
 use Rattle.log.specs.Order.{needed, directWaits}
 use Rattle.log.specs.OrderLaws.{needed-in}
@@ -31,11 +30,11 @@ use Rattle.session.specs.Model.{Model, model, Outcome, refusedWith, unle
 use Rattle.session.specs.Issue.{objectOr0, writes, renames, issues}
 use Rattle.session.specs.Edit.{changed, makeOf, removeOf, renameOf, writeOf, setLengthOf, forderOf}
 use Rattle.questions.specs.Way.{Way, found, refused, wayOf}
-use Rattle.session.specs.Question.{lookupOf, listOf, statOf, readOf, followed, objectRows}
+use Rattle.session.specs.Question.{lookupOf, listOf, statOf, readOf, followed}
 use Rattle.session.specs.Send.{Sends, sendAll, pushOf, pushed, sendOne, fsyncOf, synced, cutOff, cutOf, takeOf, renewOf}
 use Rattle.session.specs.Step.{outcome}
-use Rattle.session.specs.RefusalLaws.{Passed, numbered, passed, accepted-next}
-use Rattle.session.specs.IssueLaws.{Recordable, recordOf, record-good}
+use Rattle.session.specs.RefusalLaws.{numbered, passed, accepted-next}
+use Rattle.session.specs.IssueLaws.{recordOf, record-good}
 use Rattle.session.specs.EditLaws.{Sound, Issuable, create-accepted, make-accepted, remove-accepted, rename-accepted, write-accepted, length-accepted, forder-accepted}
 
 module _ (g : Geometry) where

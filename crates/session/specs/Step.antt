@@ -1,15 +1,14 @@
 -- What each entry does, on all inputs: format, mount, and every call over the three buffers.
 use Prim.Native.Nat.{ℕ}
-use mathlib.Core.List.{List, [], _∷_}
-use mathlib.Core.Bool.{Bool, true, false, _&&_, cond}
+use mathlib.Core.List.{List, []}
+use mathlib.Core.Bool.{_&&_, cond}
 use mathlib.Core.Option.{Option, none, some}
-use lib.ListN.{length, replicate}
-use lib.Dec.{eqb}
+use lib.ListN.{replicate}
 use Rattle.volume.specs.Volume.{Volume, formatted}
 use Rattle.volume.specs.Stored.{encodeVolume, decodeVolume}
 use Rattle.volume.specs.Lent.{isSome}
 use Rattle.log.specs.Slot.{Log, emptyLog}
-use Rattle.log.specs.Stored.{encodeLog, decodeLog, logBytes}
+use Rattle.log.specs.Stored.{encodeLog, decodeLog}
 use Rattle.session.specs.Call.{Geometry, Buffers, Call, lookup, list, stat, read, createFile, makeDirectory, remove, rename, write, setLength, forder, push, fsync, cut, take, renew, Answer, answer, resultCount, ownBuffer, inRange, serverFits, lengthsFit}
 use Rattle.session.specs.Model.{Model, model, Outcome}
 use Rattle.session.specs.Question.{lookupOf, listOf, statOf, readOf}

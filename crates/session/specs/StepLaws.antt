@@ -1,26 +1,23 @@
 -- What the entries leave in the buffers: bytes of the right form, for every geometry in range and every call.
-use Prim.Native.Nat.{ℕ, _≤_, _<_}
+use Prim.Native.Nat.{ℕ}
 use native.Mathlib.Omega.{arith}
-use mathlib.Core.Path.{_≡_, refl, sym, ap, _∙_, subst}
-use mathlib.Core.List.{List, [], _∷_}
-use mathlib.Core.Bool.{Bool, true, false, _&&_, cond, and-eq-true-iff}
+use mathlib.Core.Path.{_≡_, refl, sym, ap, subst}
+use mathlib.Core.List.{[]}
+use mathlib.Core.Bool.{Bool, true, false, _&&_, cond}
 use mathlib.Core.Option.{Option, none, some}
-use lib.ListN.{length}
-use lib.Dec.{eqb}
 use borrow.Author.Tests.{eq-eqb}
-use Rattle.volume.specs.Volume.{Volume, formatted}
-use Rattle.volume.specs.Form.{wellFormed}
-use Rattle.volume.specs.Stored.{encodeVolume, decodeVolume}
+use Rattle.volume.specs.Volume.{Volume}
+use Rattle.volume.specs.Stored.{decodeVolume}
 use Rattle.volume.specs.Lent.{isSome}
 use Rattle.volume.specs.StoredLaws
 use Rattle.log.specs.Slot.{Log, emptyLog}
 use Rattle.log.specs.Slot
 use Rattle.log.specs.SlotLaws.{empty-good}
-use Rattle.log.specs.Stored.{encodeLog, decodeLog, logBytes}
+use Rattle.log.specs.Stored.{encodeLog}
 use Rattle.log.specs.StoredLaws as LogLaws
-use Rattle.session.specs.Call.{Geometry, Buffers, Call, Answer, inRange, serverFits, lengthsFit}
-use Rattle.session.specs.Model.{Model, model, Outcome}
-use Rattle.session.specs.Step.{Result, outcome, encodeModel, joinModel, decodeModel, onModel, step, mount, format, formatLeaves}
+use Rattle.session.specs.Call.{Geometry, Buffers, Call, inRange, serverFits, lengthsFit}
+use Rattle.session.specs.Model.{Model, model}
+use Rattle.session.specs.Step.{Result, outcome, encodeModel, joinModel, decodeModel, onModel, step, mount}
 use Rattle.session.specs.EditLaws.{Sound, objects-few, blocks-few}
 use Rattle.session.specs.SoundLaws.{call-sound}
 

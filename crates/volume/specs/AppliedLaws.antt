@@ -64,17 +64,17 @@ module _ (n b : ℕ) (v : Volume) (r : Record) (w : wellFormed n b v ≡ true) (
   unfolding fits
   within = leb-true _ _ (and-eq-true-iff (allBelow n (operands (r .operation))) (leb (parts (r .operation) .offset + length (parts (r .operation) .block)) (1024 * b)) .0 f .1)
 
+  -- a new entry's number is free and its name short, if there is room
+  made-ready : (o p : ℕ) (m : List ℕ) → hasRoom v o p m ≡ true → validName m ≡ true → (o < length v) × (entryAt v o ≡ free) × (length m ≤ 60)
+  made-ready o p m t k = let y = room-free v o p m t in (y .0, y .1, valid-length m k .1)
+
   pub file-made : (o p : ℕ) (m : List ℕ) → r .operation ≡ createFile o p m → (o < length v) × (entryAt v o ≡ free) × (length m ≤ 60)
   unfolding applies
-  file-made o p m e =
-      let x = room-free v o p m (rw e at a) in
-      (x .0, x .1, valid-length m (rw e at (valid-inv r h .name)) .1)
+  file-made o p m e = made-ready o p m (rw e at a) (rw e at (valid-inv r h .name))
 
   pub directory-made : (o p : ℕ) (m : List ℕ) → r .operation ≡ makeDirectory o p m → (o < length v) × (entryAt v o ≡ free) × (length m ≤ 60)
   unfolding applies
-  directory-made o p m e =
-      let x = room-free v o p m (rw e at a) in
-      (x .0, x .1, valid-length m (rw e at (valid-inv r h .name)) .1)
+  directory-made o p m e = made-ready o p m (rw e at a) (rw e at (valid-inv r h .name))
 
   pub removed : (o p : ℕ) (m : List ℕ) → r .operation ≡ remove o p m → o < length v
   unfolding applies

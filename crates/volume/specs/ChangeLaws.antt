@@ -154,7 +154,7 @@ pub data Keeps (v : Volume) (o : ℕ) (e : Entry) : Type 0 where
   place : isDirectory e ≡ true → parentOf e ≡ parentOf (entryAt v o) → Keeps v o e
 
 -- what an entry must be to be put at a number: its name, parent and length in order, and no other entry so named
-pub record Fitting (b : ℕ) (v : Volume) (o : ℕ) (e : Entry) : Type 0 where
+pub record Placeable (b : ℕ) (v : Volume) (o : ℕ) (e : Entry) : Type 0 where
   pub name : isUsed e ≡ true → validName (nameOf e) ≡ true
   pub parent : isUsed e ≡ true → isDirectory (entryAt v (parentOf e)) ≡ true
   pub short : length (contentsOf e) ≤ 1024 * b
@@ -198,7 +198,7 @@ module _ (v : Volume) (o : ℕ) (e : Entry) (inside : o < length v) where
       record { other = x .other; used = sym (ap isUsed q) ∙ x .used; parent = sym (ap parentOf q) ∙ x .parent; name = sym (ap nameOf q) ∙ x .name }
 
   -- A change at one entry of a well-formed volume leaves it well-formed, if the new entry fits.
-  pub set-sound : (n b : ℕ) → Sound n b v → (o ≡ 0 → ⊥) → Fitting b v o e → Sound n b (set v o e)
+  pub set-sound : (n b : ℕ) → Sound n b v → (o ≡ 0 → ⊥) → Placeable b v o e → Sound n b (set v o e)
   set-sound n b s z f =
       record {
         size = length-set v o e ∙ s .size;

@@ -12,7 +12,14 @@ use Rattle.records.specs.declared.reader.Objects.{Objects}
 use Rattle.records.specs.declared.reader.Whole.{Whole}
 use Rattle.records.specs.Operation.{Operation, present, operands}
 use Rattle.records.specs.Fields.{Parts, standsIn, allBelow, fits}
-use Rattle.records.specs.Answer.{operationOf, partsFrom, recordFrom, displacedIf}
+use Rattle.records.specs.declared.reader.Reading.the-variants.{Is as RecordIs}
+use Rattle.records.specs.Numeral.{Bytes}
+use Rattle.records.specs.Reader.{recordAt}
+use Rattle.records.specs.Answer.{operationOf, partsFrom, recordFrom, displacedIf, decoded, decodeAt}
+use Rattle.records.specs.ExactLaws.{encode-decode}
+use Rattle.records.specs.Fit.{fitsWhole, fitsDecoded}
+use Rattle.records.specs.FitLaws.{fits-read}
+use mathlib.Core.Option.{some}
 use Rattle.volume.specs.Held.{operationIn, Fitting}
 
 -- the objects of an operation of a kind are below n: a displaced one too, if it has one
@@ -69,3 +76,13 @@ module _ (n b : ℕ) (s : List ℕ) (w : Whole) where
   unfolding fits
   objects-below f k e =
       kind-below k (ap (λ (o : Operation). allBelow n (operands o)) (sym (operation-kind s w k e)) ∙ and-eq-true-iff _ _ .0 (f .fit) .0)
+
+-- What the reader found, if it fits, is a valid record that fits: what a caller has tested is what applying asks.
+pub read-fitting : (n b : ℕ) (s : List ℕ) → Bytes s → (at : ℕ) (w : Whole) → recordAt s at ≡ RecordIs w → fitsWhole n b s w ≡ true → Fitting n b s w
+unfolding decodeAt
+read-fitting n b s byte at w e f =
+    let d : decodeAt s at ≡ some (recordFrom s w) = ap (decoded s) e in
+    record {
+      sound = encode-decode s byte at (recordFrom s w) d .0;
+      fit = sym (ap (fitsDecoded n b) d) ∙ fits-read s byte at n b w e ∙ f;
+    }

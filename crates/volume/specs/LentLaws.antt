@@ -99,7 +99,7 @@ formed-intro n b s f =
     and-eq-true-iff (lent n b s) _ .1
     (lent-intro n b s (f .lent), rw (f .form, f .stored, bytes-same s))
 
--- Bytes that are not formed, though lent as they should be, hold no volume.
+-- Bytes that are lent as they should be are formed exactly if they hold a volume.
 pub formed-decode : (n b : ℕ) (s : List ℕ) → Lent n b s → formed n b s ≡ isSome (decodeVolume n b s)
 unfolding formed
 formed-decode n b s l = rw (lent-intro n b s l)

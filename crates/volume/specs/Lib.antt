@@ -18,5 +18,5 @@ pub mod AnswerLaws
 pub mod Held
 pub mod HeldLaws
 pub mod AppliedLaws
-pub mod ArmLaws
+pub mod KindLaws
 pub mod RenameLaws

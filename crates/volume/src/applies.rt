@@ -1,20 +1,17 @@
 // Whether an operation applies (document 01, "Returned numbers", its last paragraph): "its own conditions hold there and
 // names lead to the recorded objects".
 ghost use mathlib.Core.Path.{_≡_};
-ghost use mathlib.Core.Bool.{_&&_};
-ghost use Prim.Native.Nat.{_+_, _<_};
-ghost use lib.Dec.{leb, eqb};
-ghost use lib.ListN.{length};
+ghost use Prim.Native.Nat.{_<_};
 ghost use Rattle.records.specs.Answer.{displacedIf};
-ghost use Rattle.entry.specs.Entry.{isFile, contentsOf};
 ghost use Rattle.volume.specs.Apply.{leads, hasRoom, removable, stays, displaceable, yields, renamable, overwritable, appendable, applies};
 ghost use Rattle.volume.specs.Stored.{readVolume};
-ghost use Rattle.volume.specs.Lent.{Lent, entryIn};
+ghost use Rattle.volume.specs.Lent.{Lent};
 ghost use Rattle.volume.specs.Held.{Fitting, operationIn};
 use crate::entries::entry;
 use crate::search::Found;
 use crate::search::has_children;
 use crate::search::search;
+use entry::FREE;
 use entry::field::contents;
 use entry::field::is_directory;
 use entry::field::is_file;
@@ -49,7 +46,7 @@ fn has_room(s: &[u8], n: usize, b: usize, o: usize, p: usize, name: &[u8]) -> bo
     if is_directory(entry(s, n, b, p)) {
         return match search(s, n, b, p, name) {
             Found::At(i) => false,
-            Found::Nothing => kind(entry(s, n, b, o)) == 0,
+            Found::Nothing => kind(entry(s, n, b, o)) == FREE,
         };
     }
     false

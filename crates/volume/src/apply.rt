@@ -16,6 +16,8 @@ use crate::write::make_entry;
 use crate::write::overwrite_file;
 use crate::write::rename_entry;
 use crate::write::set_file_length;
+use entry::DIRECTORY;
+use entry::FILE;
 use records::fit::stretch_of;
 use records::kind::Kind;
 use records::reader::Objects;
@@ -56,8 +58,8 @@ pub fn apply(s: &mut [u8], n: usize, b: usize, rec: &[u8], w: Whole)
     let src = stretch_of(rec, content.start, content.len);
     let code = head.kind;
     match code {
-        Kind::CreateFile => make_entry(s, n, b, o, 1, objects.parent, name),
-        Kind::MakeDirectory => make_entry(s, n, b, o, 2, objects.parent, name),
+        Kind::CreateFile => make_entry(s, n, b, o, FILE, objects.parent, name),
+        Kind::MakeDirectory => make_entry(s, n, b, o, DIRECTORY, objects.parent, name),
         Kind::Remove => free_entry(s, n, b, o),
         Kind::Rename => apply_rename(
             s,

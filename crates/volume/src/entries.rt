@@ -2,6 +2,8 @@
 ghost use mathlib.Core.Path.{_≡_};
 ghost use Prim.Native.Nat.{_<_};
 ghost use Rattle.volume.specs.Lent.{lent, Lent, IsEntry};
+use entry::BLOCK;
+use entry::DATA_AT;
 
 // Whether n, b and the length are as document 01 has them: "n objects (2..256), b blocks a file (1..64)".
 pub fn is_lent(s: &[u8], n: usize, b: usize) -> bool
@@ -19,7 +21,7 @@ pub fn is_lent(s: &[u8], n: usize, b: usize) -> bool
     if 64 < b {
         return false;
     }
-    s.len() == n * (68 + 1024 * b)
+    s.len() == n * (DATA_AT + BLOCK * b)
 }
 
 // The entry of an object's number, as a part of the volume.
@@ -28,7 +30,7 @@ pub fn entry(s: &[u8], n: usize, b: usize, i: usize) -> &[u8]
     requires { ⌜ i < n ⌝ }
     ensures { λ r. ⌜ IsEntry n b (now (s .entry)) i (now r) ⌝ }
 {
-    let size = 68 + 1024 * b;
+    let size = DATA_AT + BLOCK * b;
     let at = i * size;
     let end = at + size;
     &s[at..end]

@@ -11,6 +11,9 @@ ghost use Rattle.entry.specs.Stored.{entryBytes, entryOf};
 ghost use Rattle.entry.specs.Write.{headField, written, resized};
 ghost use Rattle.volume.specs.Lent.{Lent, Formed, entryIn, withEntry};
 use crate::entries::entry;
+use entry::BLOCK;
+use entry::DATA_AT;
+use entry::LENGTH_AT;
 use entry::field::contents;
 use entry::field::kind;
 use entry::write::put_head;
@@ -25,8 +28,8 @@ fn write_head(s: &mut [u8], n: usize, b: usize, i: usize, kind: usize, parent: u
     requires { ⌜ length (now name) ≤ 60 ⌝ }
     ensures { λ r. ⌜ now (s .exit) ≡ patch (now (s .entry)) (i * entryBytes b) (headField kind parent (now (name .entry))) ⌝ }
 {
-    let at = i * (68 + 1024 * b);
-    let end = at + 64;
+    let at = i * (DATA_AT + BLOCK * b);
+    let end = at + LENGTH_AT;
     put_head(&mut s[at..end], kind, parent, name);
 }
 
@@ -36,7 +39,7 @@ fn write_len(s: &mut [u8], n: usize, b: usize, i: usize, len: usize)
     requires { ⌜ i < n ⌝ }
     ensures { λ r. ⌜ now (s .exit) ≡ patch (now (s .entry)) (i * entryBytes b + 64) (bytes 4 len) ⌝ }
 {
-    let start = i * (68 + 1024 * b) + 64;
+    let start = i * (DATA_AT + BLOCK * b) + LENGTH_AT;
     let end = start + 4;
     put_four(&mut s[start..end], 0, len);
 }
@@ -48,9 +51,9 @@ fn write_block(s: &mut [u8], n: usize, b: usize, i: usize, offset: usize, src: &
     requires { ⌜ (1 ≤ length (now src)) × (offset % 1024 + length (now src) ≤ 1024) × (offset + length (now src) ≤ 1024 * b) ⌝ }
     ensures { λ r. ⌜ now (s .exit) ≡ patch (now (s .entry)) (i * entryBytes b + (68 + offset)) (now (src .entry)) ⌝ }
 {
-    let start = i * (68 + 1024 * b) + 68 + offset / 1024 * 1024;
-    let end = start + 1024;
-    put_bytes(&mut s[start..end], offset % 1024, src);
+    let start = i * (DATA_AT + BLOCK * b) + DATA_AT + offset / BLOCK * BLOCK;
+    let end = start + BLOCK;
+    put_bytes(&mut s[start..end], offset % BLOCK, src);
 }
 
 // Zeroes the data of one entry from an offset up to another.
@@ -60,7 +63,7 @@ fn clear_data(s: &mut [u8], n: usize, b: usize, i: usize, from: usize, to: usize
     requires { ⌜ (from ≤ to) × (to ≤ 1024 * b) ⌝ }
     ensures { λ r. ⌜ now (s .exit) ≡ patch (now (s .entry)) (i * entryBytes b + (68 + from)) (replicate (to - from) 0) ⌝ }
 {
-    let at = i * (68 + 1024 * b) + 68;
+    let at = i * (DATA_AT + BLOCK * b) + DATA_AT;
     let start = at + from;
     let end = at + to;
     clear(&mut s[start..end]);
@@ -90,7 +93,7 @@ pub fn free_entry(s: &mut [u8], n: usize, b: usize, i: usize)
     requires { ⌜ i < n ⌝ }
     ensures { λ r. ⌜ now (s .exit) ≡ withEntry n b (now (s .entry)) i free ⌝ }
 {
-    let size = 68 + 1024 * b;
+    let size = DATA_AT + BLOCK * b;
     let at = i * size;
     let end = at + size;
     clear(&mut s[at..end]);

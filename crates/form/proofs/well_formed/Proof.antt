@@ -10,7 +10,7 @@ use Rattle.records.specs.Numeral.{Bytes}
 use Rattle.volume.specs.Stored.{readVolume}
 use Rattle.volume.specs.Lent.{lent, formed}
 use Rattle.volume.specs.LentLaws.{lent-inv}
-use Rattle.form.specs.Checks.{Gathered, Below, entriesFormed, parentsFormed, allLead, allAlone}
+use Rattle.form.specs.Checks.{Gathered, Numbers, entriesFormed, parentsFormed, allLead, allAlone}
 use Rattle.form.specs.ChecksLaws.{checks-formed, formed-first, formed-checks, parents-below}
 use Rattle.form.proofs.well_formed.Statement.{statement}
 use Rattle.form.proofs.well_formed.Tie as tie
@@ -41,7 +41,7 @@ module _ (n b : ℕ) (s : List ℕ) (byte : Bytes s) where
     no-lead t = refuted _ _ t (λ f. formed-checks n b s byte l same f .2)
 
     module _ (h : lent n b s ≡ true) (e : entriesFormed n b s ≡ true) (p : parentsFormed (readVolume n b s) ≡ true) where
-      below : (n ≤ 256) × Below l
+      below : (n ≤ 256) × Numbers l
       below =
           let w = lent-inv n b s h in
           (w .most, λ i. omega (arith, w .most, same i, parents-below n b s w byte e p i))

@@ -2,7 +2,7 @@
 use mathlib.Core.Path.{sym, ap, _∙_}
 use borrow.Author.Needs.{needs}
 use Rattle.entry.specs.Check.{zeros}
-use Rattle.entry.specs.CheckTests.{take-rest, free-formed, kind-unknown, name-unformed, file-formed, directory-formed}
+use Rattle.entry.specs.TestLaws.{take-rest, free-formed, kind-unknown, name-unformed, file-formed, directory-formed}
 use Rattle.entry.proofs.form.entry_formed.Statement.{statement}
 use Rattle.entry.proofs.form.entry_formed.Tie as tie
 

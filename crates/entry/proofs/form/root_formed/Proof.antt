@@ -2,7 +2,7 @@
 use mathlib.Core.Path.{sym, ap, _∙_}
 use borrow.Author.Needs.{needs}
 use Rattle.entry.specs.Check.{zeros}
-use Rattle.entry.specs.CheckTests.{take-rest, root-other, root-zeros}
+use Rattle.entry.specs.TestLaws.{take-rest, root-other, root-zeros}
 use Rattle.entry.proofs.form.root_formed.Statement.{statement}
 use Rattle.entry.proofs.form.root_formed.Tie as tie
 

@@ -1,5 +1,6 @@
 -- `questions::listing::listed_len` meets its contract: what is listed of a child has 4 bytes and its name, of no other entry none.
 -- Assumes nothing.
+use Rattle.questions.specs.Listing.{listedAt}
 use Prim.Native.Nat.{ℕ, _+_, _*_, _<_}
 use mathlib.Core.Bool.{true, false}
 use mathlib.Core.List.{List}
@@ -15,7 +16,6 @@ use Rattle.volume.specs.Stored.{readVolume}
 use Rattle.volume.specs.Lent.{IsEntry}
 use Rattle.volume.specs.LentLaws.{entry-long}
 use Rattle.volume.specs.AnswerLaws.{settled}
-use Rattle.questions.specs.Answer.{listedAt}
 use Rattle.questions.specs.ListingLaws.{name-below, length-listed}
 use Rattle.questions.proofs.listing.listed_len.Statement.{statement}
 use Rattle.questions.proofs.listing.listed_len.Tie as tie

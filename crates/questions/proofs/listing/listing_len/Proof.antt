@@ -6,8 +6,7 @@ use native.Mathlib.Omega.{arith}
 use lib.ListN.{length, length-append}
 use Rattle.volume.specs.Volume.{Volume}
 use Rattle.volume.specs.Stored.{readVolume}
-use Rattle.questions.specs.Listing.{listing}
-use Rattle.questions.specs.Answer.{listedAt}
+use Rattle.questions.specs.Listing.{listing, listedAt}
 use Rattle.questions.specs.ListingLaws.{listing-next}
 use Rattle.questions.proofs.listing.listing_len.Statement.{statement}
 use Rattle.questions.proofs.listing.listing_len.Tie as tie

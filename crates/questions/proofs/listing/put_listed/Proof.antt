@@ -1,5 +1,6 @@
 -- `questions::listing::put_listed` meets its contract: the fields of a child are put one after another, and of no other entry anything.
 -- Assumes nothing.
+use Rattle.questions.specs.Listing.{listedAt}
 use Prim.Native.Nat.{ℕ, _+_, _≤_}
 use mathlib.Core.Bool.{true, false}
 use mathlib.Core.List.{List, _++_}
@@ -16,7 +17,6 @@ use Rattle.volume.specs.Volume.{Volume, entryAt, isChild}
 use Rattle.volume.specs.Stored.{readVolume}
 use Rattle.volume.specs.LentLaws.{entry-long}
 use Rattle.volume.specs.AnswerLaws.{settled, of-entry}
-use Rattle.questions.specs.Answer.{listedAt}
 use Rattle.questions.specs.ListingLaws.{length-listed}
 use Rattle.questions.proofs.listing.put_listed.Statement.{statement}
 use Rattle.questions.proofs.listing.put_listed.Tie as tie

@@ -9,8 +9,7 @@ use Rattle.records.specs.Patch.{Put}
 use Rattle.records.specs.PatchLaws.{put-then, put-none}
 use Rattle.volume.specs.Volume.{Volume}
 use Rattle.volume.specs.Stored.{readVolume}
-use Rattle.questions.specs.Listing.{listing}
-use Rattle.questions.specs.Answer.{listedAt}
+use Rattle.questions.specs.Listing.{listing, listedAt}
 use Rattle.questions.specs.ListingLaws.{listing-next, listing-within}
 use Rattle.questions.proofs.listing.put_listing.Statement.{statement}
 use Rattle.questions.proofs.listing.put_listing.Tie as tie

@@ -10,7 +10,7 @@ use Rattle.volume.specs.Apply.{without}
 use Rattle.volume.specs.Lent.{entryIn}
 use Rattle.volume.specs.Held.{Displaces}
 use Rattle.volume.specs.Stored.{encodeVolume, readVolume}
-use Rattle.volume.specs.ArmLaws as arm
+use Rattle.volume.specs.KindLaws as held
 use borrow.Author.Needs.{needs}
 use Rattle.volume.proofs.apply.apply.Statement.{statement}
 use Rattle.volume.proofs.apply.apply.Tie as tie
@@ -30,7 +30,7 @@ make-entry-requires c κs =
     let t = e .before .before .before .before .before .before .before .before .before .before .before .before .before in
     let a = t .args in
     let p = t .pre in
-    let x = arm.create-ready (a .n) (a .b) (a .s .now) (a .rec .now) (a .w) (p .0) (p .1 .0) (p .1 .1) (e .before .before .before .stretch-of .result .now) (e .before .before .before .stretch-of .ensures) (e .enum-told .given .1) in
+    let x = held.create-ready (a .n) (a .b) (a .s .now) (a .rec .now) (a .w) (p .0) (p .1 .0) (p .1 .1) (e .before .before .before .stretch-of .result .now) (e .before .before .before .stretch-of .ensures) (e .enum-told .given .1) in
     (p .0, ((x .0, x .1), (omega arith, omega arith, x .2)))
 
 enum-told-2 : tie.Need-enum-told-2
@@ -42,7 +42,7 @@ make-entry-requires-2 c κs =
     let t = e .before .before .before .before .before .before .before .before .before .before .before .before .before in
     let a = t .args in
     let p = t .pre in
-    let x = arm.directory-ready (a .n) (a .b) (a .s .now) (a .rec .now) (a .w) (p .0) (p .1 .0) (p .1 .1) (e .before .before .before .stretch-of .result .now) (e .before .before .before .stretch-of .ensures) (e .enum-told2 .given .1) in
+    let x = held.directory-ready (a .n) (a .b) (a .s .now) (a .rec .now) (a .w) (p .0) (p .1 .0) (p .1 .1) (e .before .before .before .stretch-of .result .now) (e .before .before .before .stretch-of .ensures) (e .enum-told2 .given .1) in
     (p .0, ((x .0, x .1), (omega arith, omega arith, x .2)))
 
 enum-told-3 : tie.Need-enum-told-3
@@ -54,7 +54,7 @@ free-entry-requires c κs =
     let t = e .before .before .before .before .before .before .before .before .before .before .before .before .before in
     let a = t .args in
     let p = t .pre in
-    let x = arm.remove-ready (a .n) (a .b) (a .s .now) (a .rec .now) (a .w) (p .0) (p .1 .0) (p .1 .1) (e .enum-told3 .given .1) in
+    let x = held.remove-ready (a .n) (a .b) (a .s .now) (a .rec .now) (a .w) (p .0) (p .1 .0) (p .1 .1) (e .enum-told3 .given .1) in
     (p .0, x)
 
 enum-told-4 : tie.Need-enum-told-4
@@ -72,7 +72,7 @@ apply-rename-requires c κs =
     let t = e .before .before .before .before .before .before .before .before .before .before .before .before .before in
     let a = t .args in
     let p = t .pre in
-    let x = arm.rename-ready (a .n) (a .b) (a .s .now) (a .rec .now) (a .w) (p .0) (p .1 .0) (p .1 .1) (c .stretch-of3 .result .now) (c .stretch-of3 .ensures) (e .enum-told4 .given .1) in
+    let x = held.rename-ready (a .n) (a .b) (a .s .now) (a .rec .now) (a .w) (p .0) (p .1 .0) (p .1 .1) (c .stretch-of3 .result .now) (c .stretch-of3 .ensures) (e .enum-told4 .given .1) in
     (p .0, ((x .0, x .1, x .2), subst (λ (d : Bool). Displaces (a .n) (a .b) (readVolume (a .n) (a .b) (a .s .now)) (a .w .objects .object) (displacedIf d (a .w .objects .displaced))) (sym (c .before .stands .ensures)) (x .3)))
 
 enum-told-5 : tie.Need-enum-told-5
@@ -84,7 +84,7 @@ overwrite-file-requires c κs =
     let t = e .before .before .before .before .before .before .before .before .before .before .before .before .before in
     let a = t .args in
     let p = t .pre in
-    let x = arm.overwrite-needs (a .n) (a .b) (a .s .now) (a .rec .now) (a .w) (p .0) (p .1 .0) (p .1 .1) (e .before .before .stretch-of2 .result .now) (e .before .before .stretch-of2 .ensures) (e .enum-told5 .given .1) in
+    let x = held.overwrite-needs (a .n) (a .b) (a .s .now) (a .rec .now) (a .w) (p .0) (p .1 .0) (p .1 .1) (e .before .before .stretch-of2 .result .now) (e .before .before .stretch-of2 .ensures) (e .enum-told5 .given .1) in
     (p .0, ((x .0, x .1), (x .2, x .3, x .4)))
 
 enum-told-6 : tie.Need-enum-told-6
@@ -96,7 +96,7 @@ append-file-requires c κs =
     let t = e .before .before .before .before .before .before .before .before .before .before .before .before .before in
     let a = t .args in
     let p = t .pre in
-    let x = arm.append-needs (a .n) (a .b) (a .s .now) (a .rec .now) (a .w) (p .0) (p .1 .0) (p .1 .1) (e .before .before .stretch-of2 .result .now) (e .before .before .stretch-of2 .ensures) (e .enum-told6 .given .1) in
+    let x = held.append-needs (a .n) (a .b) (a .s .now) (a .rec .now) (a .w) (p .0) (p .1 .0) (p .1 .1) (e .before .before .stretch-of2 .result .now) (e .before .before .stretch-of2 .ensures) (e .enum-told6 .given .1) in
     (p .0, ((x .0, x .1, x .2), (x .3, x .4, x .5)))
 
 enum-told-7 : tie.Need-enum-told-7
@@ -108,7 +108,7 @@ set-file-length-requires c κs =
     let t = e .before .before .before .before .before .before .before .before .before .before .before .before .before in
     let a = t .args in
     let p = t .pre in
-    let x = arm.length-needs (a .n) (a .b) (a .s .now) (a .rec .now) (a .w) (p .0) (p .1 .0) (p .1 .1) (e .enum-told7 .given .1) in
+    let x = held.length-needs (a .n) (a .b) (a .s .now) (a .rec .now) (a .w) (p .0) (p .1 .0) (p .1 .1) (e .enum-told7 .given .1) in
     (p .0, (x .0, x .1, x .2))
 
 enum-told-8 : tie.Need-enum-told-8
@@ -124,7 +124,7 @@ returns c =
     let t = e .before .before .before .before .before .before .before .before .before .before .before .before .before in
     let a = t .args in
     let p = t .pre in
-    y .make-entry .ensures ∙ arm.create-leaves (a .n) (a .b) (a .s .now) (a .rec .now) (a .w) (p .0) (p .1 .0) (p .1 .1) (e .before .before .before .stretch-of .result .now) (e .before .before .before .stretch-of .ensures) (e .enum-told .given .1)
+    y .make-entry .ensures ∙ held.create-leaves (a .n) (a .b) (a .s .now) (a .rec .now) (a .w) (p .0) (p .1 .0) (p .1 .1) (e .before .before .before .stretch-of .result .now) (e .before .before .before .stretch-of .ensures) (e .enum-told .given .1)
 
 same-length-2 : tie.Need-same-length-2
 same-length-2 c = search needs
@@ -136,7 +136,7 @@ returns-2 c =
     let t = e .before .before .before .before .before .before .before .before .before .before .before .before .before in
     let a = t .args in
     let p = t .pre in
-    y .make-entry2 .ensures ∙ arm.directory-leaves (a .n) (a .b) (a .s .now) (a .rec .now) (a .w) (p .0) (p .1 .0) (p .1 .1) (e .before .before .before .stretch-of .result .now) (e .before .before .before .stretch-of .ensures) (e .enum-told2 .given .1)
+    y .make-entry2 .ensures ∙ held.directory-leaves (a .n) (a .b) (a .s .now) (a .rec .now) (a .w) (p .0) (p .1 .0) (p .1 .1) (e .before .before .before .stretch-of .result .now) (e .before .before .before .stretch-of .ensures) (e .enum-told2 .given .1)
 
 same-length-3 : tie.Need-same-length-3
 same-length-3 c = search needs
@@ -148,7 +148,7 @@ returns-3 c =
     let t = e .before .before .before .before .before .before .before .before .before .before .before .before .before in
     let a = t .args in
     let p = t .pre in
-    y .free-entry .ensures ∙ arm.remove-leaves (a .n) (a .b) (a .s .now) (a .rec .now) (a .w) (p .0) (p .1 .0) (p .1 .1) (e .enum-told3 .given .1)
+    y .free-entry .ensures ∙ held.remove-leaves (a .n) (a .b) (a .s .now) (a .rec .now) (a .w) (p .0) (p .1 .0) (p .1 .1) (e .enum-told3 .given .1)
 
 same-length-4 : tie.Need-same-length-4
 same-length-4 c = search needs
@@ -164,7 +164,7 @@ returns-4 c =
     y .apply-rename .ensures
     ∙ ap (λ (d : Bool). encodeVolume (a .b) (set (without (readVolume (a .n) (a .b) (a .s .now)) (displacedIf d (a .w .objects .displaced))) (a .w .objects .object)
     (renamed (entryIn (a .n) (a .b) (a .s .now) (a .w .objects .object)) (g .stretch-of3 .result .now) (a .w .objects .second)))) (g .before .stands .ensures)
-    ∙ arm.rename-leaves (a .n) (a .b) (a .s .now) (a .rec .now) (a .w) (p .0) (p .1 .0) (p .1 .1) (g .stretch-of3 .result .now) (g .stretch-of3 .ensures) (e .enum-told4 .given .1)
+    ∙ held.rename-leaves (a .n) (a .b) (a .s .now) (a .rec .now) (a .w) (p .0) (p .1 .0) (p .1 .1) (g .stretch-of3 .result .now) (g .stretch-of3 .ensures) (e .enum-told4 .given .1)
 
 same-length-5 : tie.Need-same-length-5
 same-length-5 c = search needs
@@ -176,7 +176,7 @@ returns-5 c =
     let t = e .before .before .before .before .before .before .before .before .before .before .before .before .before in
     let a = t .args in
     let p = t .pre in
-    y .overwrite-file .ensures ∙ arm.overwrite-leaves (a .n) (a .b) (a .s .now) (a .rec .now) (a .w) (p .0) (p .1 .0) (p .1 .1) (e .before .before .stretch-of2 .result .now) (e .before .before .stretch-of2 .ensures) (e .enum-told5 .given .1)
+    y .overwrite-file .ensures ∙ held.overwrite-leaves (a .n) (a .b) (a .s .now) (a .rec .now) (a .w) (p .0) (p .1 .0) (p .1 .1) (e .before .before .stretch-of2 .result .now) (e .before .before .stretch-of2 .ensures) (e .enum-told5 .given .1)
 
 same-length-6 : tie.Need-same-length-6
 same-length-6 c = search needs
@@ -188,7 +188,7 @@ returns-6 c =
     let t = e .before .before .before .before .before .before .before .before .before .before .before .before .before in
     let a = t .args in
     let p = t .pre in
-    y .append-file .ensures ∙ arm.append-leaves (a .n) (a .b) (a .s .now) (a .rec .now) (a .w) (p .0) (p .1 .0) (p .1 .1) (e .before .before .stretch-of2 .result .now) (e .before .before .stretch-of2 .ensures) (e .enum-told6 .given .1)
+    y .append-file .ensures ∙ held.append-leaves (a .n) (a .b) (a .s .now) (a .rec .now) (a .w) (p .0) (p .1 .0) (p .1 .1) (e .before .before .stretch-of2 .result .now) (e .before .before .stretch-of2 .ensures) (e .enum-told6 .given .1)
 
 same-length-7 : tie.Need-same-length-7
 same-length-7 c = search needs
@@ -200,14 +200,14 @@ returns-7 c =
     let t = e .before .before .before .before .before .before .before .before .before .before .before .before .before in
     let a = t .args in
     let p = t .pre in
-    y .set-file-length .ensures ∙ arm.length-leaves (a .n) (a .b) (a .s .now) (a .rec .now) (a .w) (p .0) (p .1 .0) (p .1 .1) (e .enum-told7 .given .1)
+    y .set-file-length .ensures ∙ held.length-leaves (a .n) (a .b) (a .s .now) (a .rec .now) (a .w) (p .0) (p .1 .0) (p .1 .1) (e .enum-told7 .given .1)
 
 returns-8 : tie.Need-returns-8
 returns-8 c =
     let t = c .before .before .before .before .before .before .before .before .before .before .before .before .before in
     let a = t .args in
     let p = t .pre in
-    arm.forder-leaves (a .n) (a .b) (a .s .now) (a .rec .now) (a .w) (p .0) (p .1 .0) (p .1 .1) (c .enum-told8 .given .1)
+    held.forder-leaves (a .n) (a .b) (a .s .now) (a .rec .now) (a .w) (p .0) (p .1 .0) (p .1 .1) (c .enum-told8 .given .1)
 
 pub apply-spec : {M : Type 1} → statement M
 apply-spec =

@@ -16,7 +16,9 @@ use Rattle.entry.specs.Write.{written, resized}
 use Rattle.volume.specs.Apply.{without, applies, apply}
 use Rattle.volume.specs.Stored.{encodeVolume, readVolume}
 use Rattle.volume.specs.Lent.{Formed, entryIn, withEntry}
-use Rattle.volume.specs.LentLaws.{length-read}
+use Rattle.volume.specs.StoredLaws.{read-good}
+use Rattle.volume.specs.LentLaws.{length-read, encoded-formed}
+use Rattle.volume.specs.ApplyLaws.{apply-good}
 use Rattle.volume.specs.Held.{operationIn, Fitting, Displaces}
 use Rattle.volume.specs.HeldLaws.{operation-kind}
 use Rattle.volume.specs.AppliedLaws.{file-made, directory-made, removed, renamed-ready, overwrite-ready, append-ready, length-ready}
@@ -118,3 +120,15 @@ module _ (n b : ℕ) (s t : List ℕ) (w : Whole) (f : Formed n b s) (g : Fittin
   pub forder-leaves : w .head .kind ≡ Forder → s ≡ encodeVolume b (apply (readVolume n b s) (operationIn t w))
   unfolding apply
   forder-leaves e = rw (operation-kind t w Forder e) (sym (f .stored))
+
+  -- What applying leaves is of the right form again, and tells of the volume that the definition leaves.
+  pub apply-formed : Formed n b (encodeVolume b (apply (readVolume n b s) (operationIn t w)))
+  apply-formed =
+      let l = f .lent in
+      encoded-formed n b (apply (readVolume n b s) (operationIn t w)) (l .fewest) (l .most) (l .least) (l .blocks)
+      (apply-good n b (readVolume n b s) (recordFrom t w) (f .form) (g .sound) (g .fit) a)
+
+  pub apply-read : readVolume n b (encodeVolume b (apply (readVolume n b s) (operationIn t w))) ≡ apply (readVolume n b s) (operationIn t w)
+  apply-read =
+      read-good n b (apply (readVolume n b s) (operationIn t w)) (f .lent .most) (f .lent .blocks)
+      (apply-good n b (readVolume n b s) (recordFrom t w) (f .form) (g .sound) (g .fit) a)
