@@ -13,7 +13,7 @@ use Rattle.volume.specs.Stored.{readVolume}
 use Rattle.volume.specs.Lent.{IsEntry}
 use Rattle.volume.specs.Answer.{foundOf}
 
--- What an answer stands for is what the answer is.
+-- What an answer is, and what the contract says of it, are the same.
 pub settled : {A : Type 0} {r x y : A} → r ≡ x → r ≡ y → x ≡ y
 settled e h = sym e ∙ h
 

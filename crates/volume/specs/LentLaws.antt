@@ -51,6 +51,10 @@ lent-intro n b s l =
 pub entry-within : (n b i : ℕ) → i < n → i * entryBytes b + entryBytes b ≤ volumeBytes n b
 entry-within n b i h = omega (arith, suc-mul i (entryBytes b), mul-le-mul-right (entryBytes b) h)
 
+-- Each entry lies wholly in the bytes of a volume that is lent.
+pub entry-room : (n b : ℕ) (s : List ℕ) → Lent n b s → (i : ℕ) → i < n → i * entryBytes b + entryBytes b ≤ length s
+entry-room n b s l i h = omega (arith, entry-within n b i h, l .whole)
+
 -- A volume that is read has n entries.
 pub length-read : (n b : ℕ) (s : List ℕ) → length (readVolume n b s) ≡ n
 unfolding readVolume

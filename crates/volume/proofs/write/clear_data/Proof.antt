@@ -1,12 +1,12 @@
 -- `volume::write::clear_data` meets its contract: the data are lent on as a part.
 -- Assumes nothing.
-use Prim.Native.Nat.{ℕ, _+_, _*_, _<_, _-_}
+use Prim.Native.Nat.{ℕ, _+_, _*_, _-_}
 use mathlib.Core.Path.{_≡_, ap₂, _∙_}
 use native.Mathlib.Omega.{arith}
 use lib.ListN.{replicate}
 use Rattle.records.specs.Patch.{patch}
 use Rattle.entry.specs.Stored.{entryBytes}
-use Rattle.volume.specs.LentLaws.{entry-within}
+use Rattle.volume.specs.LentLaws.{entry-room}
 use Rattle.volume.specs.WriteLaws.{lent-cleared}
 use borrow.Author.Needs.{needs}
 use Rattle.volume.proofs.write.clear_data.Statement.{statement}
@@ -19,24 +19,16 @@ add-at : tie.Need-add-at
 add-at c = search needs
 
 mul-at-2 : tie.Need-mul-at-2
-mul-at-2 c = let t = c .before in
-    let h : t .args .i < t .args .n = omega arith in
-    omega (arith, entry-within (t .args .n) (t .args .b) (t .args .i) h)
+mul-at-2 c = let t = c .before in omega (arith, entry-room _ _ _ (t .pre .0) _ (t .pre .1 .0))
 
 add-at-2 : tie.Need-add-at-2
-add-at-2 c = let t = c .before in
-    let h : t .args .i < t .args .n = omega arith in
-    omega (arith, entry-within (t .args .n) (t .args .b) (t .args .i) h)
+add-at-2 c = let t = c .before in omega (arith, entry-room _ _ _ (t .pre .0) _ (t .pre .1 .0))
 
 add-start : tie.Need-add-start
-add-start c = let t = c .before in
-    let h : t .args .i < t .args .n = omega arith in
-    omega (arith, entry-within (t .args .n) (t .args .b) (t .args .i) h)
+add-start c = let t = c .before in omega (arith, entry-room _ _ _ (t .pre .0) _ (t .pre .1 .0))
 
 add-end : tie.Need-add-end
-add-end c = let t = c .before in
-    let h : t .args .i < t .args .n = omega arith in
-    omega (arith, entry-within (t .args .n) (t .args .b) (t .args .i) h)
+add-end c = let t = c .before in omega (arith, entry-room _ _ _ (t .pre .0) _ (t .pre .1 .0))
 
 sub-clear : tie.Need-sub-clear
 sub-clear c = search needs
@@ -45,9 +37,7 @@ part-clear-start : tie.Need-part-clear-start
 part-clear-start c = search needs
 
 part-clear-end : tie.Need-part-clear-end
-part-clear-end c = let t = c .before in
-    let h : t .args .i < t .args .n = omega arith in
-    omega (arith, entry-within (t .args .n) (t .args .b) (t .args .i) h)
+part-clear-end c = let t = c .before in omega (arith, entry-room _ _ _ (t .pre .0) _ (t .pre .1 .0))
 
 clear-requires : tie.Need-clear-requires
 clear-requires c κs = search needs
@@ -60,8 +50,7 @@ returns c =
     let z = c .before .before in
     let t = z .before .before .before in
     let a = t .args in
-    let h : a .i < a .n = omega arith in
-    let w = entry-within (a .n) (a .b) (a .i) h in
+    let w = entry-room _ _ _ (t .pre .0) _ (t .pre .1 .0) in
     let at = a .i * entryBytes (a .b) + 68 in
     let e : at + a .from ≡ a .i * entryBytes (a .b) + (68 + a .from) = omega arith in
     let d : at + a .to - (at + a .from) ≡ a .to - a .from = omega arith in

@@ -1,13 +1,13 @@
 -- `volume::write::free_entry` meets its contract: the entry is lent on as a part.
 -- Assumes nothing.
-use Prim.Native.Nat.{ℕ, _+_, _*_, _<_}
+use Prim.Native.Nat.{ℕ, _+_, _*_}
 use mathlib.Core.Path.{ap, _∙_}
 use native.Mathlib.Omega.{arith}
 use native.Mathlib.Nat.{add-sub-cancel-left}
 use lib.ListN.{replicate}
 use Rattle.records.specs.Patch.{patch}
 use Rattle.entry.specs.Stored.{entryBytes}
-use Rattle.volume.specs.LentLaws.{entry-within}
+use Rattle.volume.specs.LentLaws.{entry-room}
 use Rattle.volume.specs.WriteLaws.{lent-cleared, freed}
 use borrow.Author.Needs.{needs}
 use Rattle.volume.proofs.write.free_entry.Statement.{statement}
@@ -20,14 +20,10 @@ add-size : tie.Need-add-size
 add-size c = search needs
 
 mul-at : tie.Need-mul-at
-mul-at c = let t = c .before in
-    let h : t .args .i < t .args .n = omega arith in
-    omega (arith, entry-within (t .args .n) (t .args .b) (t .args .i) h)
+mul-at c = let t = c .before in omega (arith, entry-room _ _ _ (t .pre .0 .lent) _ (t .pre .1))
 
 add-end : tie.Need-add-end
-add-end c = let t = c .before in
-    let h : t .args .i < t .args .n = omega arith in
-    omega (arith, entry-within (t .args .n) (t .args .b) (t .args .i) h)
+add-end c = let t = c .before in omega (arith, entry-room _ _ _ (t .pre .0 .lent) _ (t .pre .1))
 
 sub-clear : tie.Need-sub-clear
 sub-clear c = search needs
@@ -36,9 +32,7 @@ part-clear-start : tie.Need-part-clear-start
 part-clear-start c = search needs
 
 part-clear-end : tie.Need-part-clear-end
-part-clear-end c = let t = c .before in
-    let h : t .args .i < t .args .n = omega arith in
-    omega (arith, entry-within (t .args .n) (t .args .b) (t .args .i) h)
+part-clear-end c = let t = c .before in omega (arith, entry-room _ _ _ (t .pre .0 .lent) _ (t .pre .1))
 
 clear-requires : tie.Need-clear-requires
 clear-requires c κs = search needs
@@ -51,12 +45,11 @@ returns c =
     let z = c .before .before in
     let t = z .before .before .before in
     let a = t .args in
-    let h : a .i < a .n = omega arith in
-    let w = entry-within (a .n) (a .b) (a .i) h in
+    let w = entry-room _ _ _ (t .pre .0 .lent) _ (t .pre .1) in
     let at = a .i * entryBytes (a .b) in
     lent-cleared (a .s .now) at (at + entryBytes (a .b)) (z .clear .last .0) (omega arith) (omega arith) (z .clear .ensures)
     ∙ ap (λ (k : ℕ). patch (a .s .now) at (replicate k 0)) (add-sub-cancel-left at (entryBytes (a .b)))
-    ∙ freed (a .n) (a .b) (a .s .now) (t .pre .0) (a .i) h
+    ∙ freed (a .n) (a .b) (a .s .now) (t .pre .0) (a .i) (t .pre .1)
 
 pub free-entry-spec : {M : Type 1} → statement M
 free-entry-spec =

@@ -1,11 +1,11 @@
 -- `volume::write::write_block` meets its contract: the block is lent on as a part, which the data do not leave.
 -- Assumes nothing.
-use Prim.Native.Nat.{ℕ, _+_, _*_, _/_, _%_, _<_}
+use Prim.Native.Nat.{ℕ, _+_, _*_, _/_, _%_}
 use mathlib.Core.Path.{_≡_, ap, _∙_}
 use native.Mathlib.Omega.{arith}
 use Rattle.records.specs.Patch.{patch}
 use Rattle.entry.specs.Stored.{entryBytes}
-use Rattle.volume.specs.LentLaws.{entry-within}
+use Rattle.volume.specs.LentLaws.{entry-room}
 use Rattle.volume.specs.WriteLaws.{lent-patched}
 use borrow.Author.Needs.{needs}
 use Rattle.volume.proofs.write.write_block.Statement.{statement}
@@ -18,27 +18,19 @@ add-start : tie.Need-add-start
 add-start c = search needs
 
 mul-start-2 : tie.Need-mul-start-2
-mul-start-2 c = let t = c .before .before in
-    let h : t .args .i < t .args .n = omega arith in
-    omega (arith, entry-within (t .args .n) (t .args .b) (t .args .i) h)
+mul-start-2 c = let t = c .before .before in omega (arith, entry-room _ _ _ (t .pre .0) _ (t .pre .1 .0))
 
 add-start-2 : tie.Need-add-start-2
-add-start-2 c = let t = c .before .before in
-    let h : t .args .i < t .args .n = omega arith in
-    omega (arith, entry-within (t .args .n) (t .args .b) (t .args .i) h)
+add-start-2 c = let t = c .before .before in omega (arith, entry-room _ _ _ (t .pre .0) _ (t .pre .1 .0))
 
 mul-start-3 : tie.Need-mul-start-3
 mul-start-3 c = search needs
 
 add-start-3 : tie.Need-add-start-3
-add-start-3 c = let t = c .before .before in
-    let h : t .args .i < t .args .n = omega arith in
-    omega (arith, entry-within (t .args .n) (t .args .b) (t .args .i) h)
+add-start-3 c = let t = c .before .before in omega (arith, entry-room _ _ _ (t .pre .0) _ (t .pre .1 .0))
 
 add-end : tie.Need-add-end
-add-end c = let t = c .before .before in
-    let h : t .args .i < t .args .n = omega arith in
-    omega (arith, entry-within (t .args .n) (t .args .b) (t .args .i) h)
+add-end c = let t = c .before .before in omega (arith, entry-room _ _ _ (t .pre .0) _ (t .pre .1 .0))
 
 sub-put-bytes : tie.Need-sub-put-bytes
 sub-put-bytes c = search needs
@@ -47,9 +39,7 @@ part-put-bytes-start : tie.Need-part-put-bytes-start
 part-put-bytes-start c = search needs
 
 part-put-bytes-end : tie.Need-part-put-bytes-end
-part-put-bytes-end c = let t = c .before .before in
-    let h : t .args .i < t .args .n = omega arith in
-    omega (arith, entry-within (t .args .n) (t .args .b) (t .args .i) h)
+part-put-bytes-end c = let t = c .before .before in omega (arith, entry-room _ _ _ (t .pre .0) _ (t .pre .1 .0))
 
 put-bytes-requires : tie.Need-put-bytes-requires
 put-bytes-requires c κs = search needs
@@ -62,8 +52,7 @@ returns c =
     let z = c .before .before in
     let t = z .before .before .before .before in
     let a = t .args in
-    let h : a .i < a .n = omega arith in
-    let w = entry-within (a .n) (a .b) (a .i) h in
+    let w = entry-room _ _ _ (t .pre .0) _ (t .pre .1 .0) in
     let k = a .i * entryBytes (a .b) + 68 + a .offset / 1024 * 1024 in
     let e : k + a .offset % 1024 ≡ a .i * entryBytes (a .b) + (68 + a .offset) = omega arith in
     lent-patched (a .s .now) k (k + 1024) (a .offset % 1024) (a .src .now) (z .put-bytes .last .0) (omega arith) (omega arith) (omega arith) (z .put-bytes .ensures .placed)

@@ -1,6 +1,6 @@
 -- `volume::write::write_head` meets its contract: the head is lent on as a part.
 -- Assumes nothing.
-use Prim.Native.Nat.{_+_, _*_, _<_}
+use Prim.Native.Nat.{_+_, _*_}
 use mathlib.Core.Path.{sym, ap, _∙_}
 use native.Mathlib.Omega.{arith}
 use native.Mathlib.Nat.{add-sub-cancel-left}
@@ -8,7 +8,7 @@ use lib.ListN.{length}
 use Rattle.records.specs.Patch.{patch}
 use Rattle.entry.specs.Stored.{entryBytes}
 use Rattle.entry.specs.WriteLaws.{length-head}
-use Rattle.volume.specs.LentLaws.{entry-within}
+use Rattle.volume.specs.LentLaws.{entry-room}
 use Rattle.volume.specs.WriteLaws.{lent-part}
 use borrow.Author.Needs.{needs}
 use Rattle.volume.proofs.write.write_head.Statement.{statement}
@@ -21,14 +21,10 @@ add-at : tie.Need-add-at
 add-at c = search needs
 
 mul-at-2 : tie.Need-mul-at-2
-mul-at-2 c = let t = c .before .before in
-    let h : t .args .i < t .args .n = omega arith in
-    omega (arith, entry-within (t .args .n) (t .args .b) (t .args .i) h)
+mul-at-2 c = let t = c .before .before in omega (arith, entry-room _ _ _ (t .pre .0) _ (t .pre .1 .0))
 
 add-end : tie.Need-add-end
-add-end c = let t = c .before .before in
-    let h : t .args .i < t .args .n = omega arith in
-    omega (arith, entry-within (t .args .n) (t .args .b) (t .args .i) h)
+add-end c = let t = c .before .before in omega (arith, entry-room _ _ _ (t .pre .0) _ (t .pre .1 .0))
 
 sub-put-head : tie.Need-sub-put-head
 sub-put-head c = search needs
@@ -37,9 +33,7 @@ part-put-head-start : tie.Need-part-put-head-start
 part-put-head-start c = search needs
 
 part-put-head-end : tie.Need-part-put-head-end
-part-put-head-end c = let t = c .before .before in
-    let h : t .args .i < t .args .n = omega arith in
-    omega (arith, entry-within (t .args .n) (t .args .b) (t .args .i) h)
+part-put-head-end c = let t = c .before .before in omega (arith, entry-room _ _ _ (t .pre .0) _ (t .pre .1 .0))
 
 put-head-requires : tie.Need-put-head-requires
 put-head-requires c κs = search needs

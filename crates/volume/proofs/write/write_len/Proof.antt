@@ -1,6 +1,6 @@
 -- `volume::write::write_len` meets its contract: the length is lent on as a part.
 -- Assumes nothing.
-use Prim.Native.Nat.{ℕ, _+_, _*_, _<_}
+use Prim.Native.Nat.{ℕ, _+_, _*_}
 use mathlib.Core.Path.{ap, _∙_}
 use native.Mathlib.Omega.{arith}
 use native.Mathlib.Nat.{add-zero}
@@ -8,7 +8,7 @@ use Rattle.records.specs.Numeral.{bytes}
 use Rattle.records.specs.NumeralLaws.{length-bytes}
 use Rattle.records.specs.Patch.{patch}
 use Rattle.entry.specs.Stored.{entryBytes}
-use Rattle.volume.specs.LentLaws.{entry-within}
+use Rattle.volume.specs.LentLaws.{entry-room}
 use Rattle.volume.specs.WriteLaws.{lent-patched}
 use borrow.Author.Needs.{needs}
 use Rattle.volume.proofs.write.write_len.Statement.{statement}
@@ -21,19 +21,13 @@ add-start : tie.Need-add-start
 add-start c = search needs
 
 mul-start-2 : tie.Need-mul-start-2
-mul-start-2 c = let t = c .before in
-    let h : t .args .i < t .args .n = omega arith in
-    omega (arith, entry-within (t .args .n) (t .args .b) (t .args .i) h)
+mul-start-2 c = let t = c .before in omega (arith, entry-room _ _ _ (t .pre .0) _ (t .pre .1))
 
 add-start-2 : tie.Need-add-start-2
-add-start-2 c = let t = c .before in
-    let h : t .args .i < t .args .n = omega arith in
-    omega (arith, entry-within (t .args .n) (t .args .b) (t .args .i) h)
+add-start-2 c = let t = c .before in omega (arith, entry-room _ _ _ (t .pre .0) _ (t .pre .1))
 
 add-end : tie.Need-add-end
-add-end c = let t = c .before in
-    let h : t .args .i < t .args .n = omega arith in
-    omega (arith, entry-within (t .args .n) (t .args .b) (t .args .i) h)
+add-end c = let t = c .before in omega (arith, entry-room _ _ _ (t .pre .0) _ (t .pre .1))
 
 sub-put-four : tie.Need-sub-put-four
 sub-put-four c = search needs
@@ -42,9 +36,7 @@ part-put-four-start : tie.Need-part-put-four-start
 part-put-four-start c = search needs
 
 part-put-four-end : tie.Need-part-put-four-end
-part-put-four-end c = let t = c .before in
-    let h : t .args .i < t .args .n = omega arith in
-    omega (arith, entry-within (t .args .n) (t .args .b) (t .args .i) h)
+part-put-four-end c = let t = c .before in omega (arith, entry-room _ _ _ (t .pre .0) _ (t .pre .1))
 
 put-four-requires : tie.Need-put-four-requires
 put-four-requires c κs = search needs
@@ -57,8 +49,7 @@ returns c =
     let z = c .before .before in
     let t = z .before .before .before in
     let a = t .args in
-    let h : a .i < a .n = omega arith in
-    let w = entry-within (a .n) (a .b) (a .i) h in
+    let w = entry-room _ _ _ (t .pre .0) _ (t .pre .1) in
     let k = a .i * entryBytes (a .b) + 64 in
     lent-patched (a .s .now) k (k + 4) 0 (bytes 4 (a .len)) (z .put-four .last .0) (omega arith) (omega arith)
     (rw (length-bytes 4 (a .len)) (omega arith)) (z .put-four .ensures .placed)
