@@ -1,0 +1,1 @@
+// Definitions only: the table of returned numbers, in specs/Returned.antt.
