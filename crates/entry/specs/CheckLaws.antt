@@ -3,7 +3,7 @@
 use Prim.Native.Nat.{ℕ, zero, suc, _+_, _*_, _%_, _^_, _≤_, _<_, _-_}
 use native.Mathlib.Omega.{arith}
 use mathlib.Core.Path.{_≡_, refl, sym, ap, ap₂, _∙_}
-use mathlib.Core.Bool.{true, _&&_, and-eq-true-iff, false≢true}
+use mathlib.Core.Bool.{true, _&&_, and-eq-true-iff}
 use mathlib.Core.List.{List, [], _∷_, _++_}
 use lib.ListN.{length, take, drop, replicate, take-append-drop, length-take, length-drop, replicate-append-replicate}
 use lib.Dec.{leb, eqb}
@@ -11,21 +11,21 @@ use borrow.Author.Tests.{le-leb, leb-true, eqb-true}
 use lib.Seq.{length-take-le, take-at, drop-at, drop-append-seam, take-take, drop-drop}
 use Rattle.names.specs.Name.{validName}
 use Rattle.names.specs.NameLaws.{valid-length}
-use Rattle.records.specs.Numeral.{bytes, numeral, Bytes}
-use Rattle.records.specs.NumeralLaws.{length-bytes, numeral-bytes, bytes-numeral, numeral-below}
-use Rattle.records.specs.ReaderLaws.{bytes-part}
-use Rattle.entry.specs.Entry.{Entry, directory, kindNumber, nameOf, parentOf, contentsOf}
+use Rattle.buffer.specs.Numeral.{bytes, numeral, Bytes}
+use Rattle.buffer.specs.NumeralLaws.{length-bytes, numeral-bytes, bytes-numeral, numeral-below, bytes-part}
+use Rattle.entry.specs.Entry.{Entry, root, kindNumber, nameOf, parentOf, contentsOf}
 use Rattle.entry.specs.Stored.{padded, entryBytes, encodeEntry, readEntry}
-use Rattle.entry.specs.Check.{zeros, nameFormed, lengthField, dataFormed, entryFormed, rootFormed, sound}
+use Rattle.buffer.specs.Zero.{zeros}
+use Rattle.entry.specs.Code.Check.{nameFormed, lengthField, dataFormed, entryFormed, rootFormed, sound}
 use Rattle.entry.specs.EntryLaws.{length-padded, free-zero}
-use Rattle.entry.specs.ZeroLaws.{zeros-replicate, replicate-zeros}
+use Rattle.buffer.specs.ZeroLaws.{zeros-replicate, replicate-zeros}
 
 -- a 2, and zeros
 abbrev rootBytes : ℕ → List ℕ
 rootBytes b = 2 ∷ (replicate 67 0 ++ replicate (1024 * b) 0)
 
 -- The root's bytes are a 2, and zeros.
-root-bytes : (b : ℕ) → encodeEntry b (directory [] 0) ≡ rootBytes b
+root-bytes : (b : ℕ) → encodeEntry b (root) ≡ rootBytes b
 unfolding encodeEntry bytes
 root-bytes b =
     let k : 1024 * b - 0 ≡ 1024 * b = omega arith in
@@ -33,7 +33,7 @@ root-bytes b =
 
 -- Bytes of an entry's length that pass the root's check tell of the root, and are its bytes.
 pub formed-root : (b : ℕ) (s : List ℕ) → length s ≡ entryBytes b → rootFormed s ≡ true
-    → (readEntry s ≡ directory [] 0) × (encodeEntry b (readEntry s) ≡ s)
+    → (readEntry s ≡ root) × (encodeEntry b (readEntry s) ≡ s)
 unfolding rootFormed readEntry numeral
 formed-root b [] h f = absurd (omega arith)
 formed-root b (a ∷ t) h f =
@@ -43,11 +43,11 @@ formed-root b (a ∷ t) h f =
     let rest : t ≡ replicate 67 0 ++ replicate (1024 * b) 0 =
     zeros-replicate t (k .1) ∙ ap (λ (n : ℕ). replicate n 0) size ∙ sym (replicate-append-replicate 67 (1024 * b) 0) in
     let whole : a ∷ t ≡ rootBytes b = ap₂ (λ (v : ℕ) (r : List ℕ). v ∷ r) two rest in
-    let root : readEntry (a ∷ t) ≡ directory [] 0 = ap readEntry whole in
-    (root, ap (encodeEntry b) root ∙ root-bytes b ∙ sym whole)
+    let told : readEntry (a ∷ t) ≡ root = ap readEntry whole in
+    (told, ap (encodeEntry b) told ∙ root-bytes b ∙ sym whole)
 
 -- The root's bytes pass the root's check.
-pub root-formed : (b : ℕ) (s : List ℕ) → readEntry s ≡ directory [] 0 → encodeEntry b (readEntry s) ≡ s → rootFormed s ≡ true
+pub root-formed : (b : ℕ) (s : List ℕ) → readEntry s ≡ root → encodeEntry b (readEntry s) ≡ s → rootFormed s ≡ true
 unfolding rootFormed zeros
 root-formed b s r e = ap rootFormed (sym e ∙ ap (encodeEntry b) r ∙ root-bytes b) ∙ replicate-zeros (1024 * b)
 
@@ -156,7 +156,9 @@ formed-entry b (suc (suc zero) ∷ l ∷ p ∷ q ∷ t) h byte f =
     let rest : bytes 4 0 ++ padded (1024 * b) [] ≡ drop 60 t =
     no-contents b ∙ ap (λ (n : ℕ). replicate n 0) (sym room) ∙ sym (zeros-replicate (drop 60 t) (x .1)) in
     header b (readEntry s) 2 l p q t (omega arith) refl (omega arith) refl (x .0) (number-back 2 2 s (omega arith) byte) rest
-formed-entry b (suc (suc (suc a)) ∷ l ∷ p ∷ q ∷ t) h byte f = absurd (false≢true f)
+formed-entry b (suc (suc (suc a)) ∷ l ∷ p ∷ q ∷ t) h byte f =
+    let z : suc (suc (suc a)) ≡ 2 = eqb-true _ 2 (and-eq-true-iff (eqb (suc (suc (suc a))) 2) _ .0 f .0) in
+    absurd (omega arith)
 
 -- The bytes of a sound entry pass the check.
 pub entry-formed : (b : ℕ) (s : List ℕ) → 1 ≤ b → length s ≡ entryBytes b → Bytes s → sound b (readEntry s) ≡ true → encodeEntry b (readEntry s) ≡ s

@@ -11,6 +11,10 @@ pub data Entry : Type 0 where
   -- name, parent
   directory : List ℕ → ℕ → Entry
 
+-- "Entry 0 is the root: a directory, empty name, parent 0."
+abbrev pub root : Entry
+root = directory [] 0
+
 -- "0 free, 1 file, 2 directory"
 abbrev pub kindNumber : Entry → ℕ
 kindNumber free = 0

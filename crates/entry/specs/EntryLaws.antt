@@ -3,16 +3,16 @@
 use Prim.Native.Nat.{ℕ, _+_, _*_, _/_, _%_, _^_, _≤_, _<_, _-_}
 use native.Mathlib.Omega.{arith}
 use mathlib.Core.Path.{_≡_, refl, sym, ap, ap₂, _∙_}
-use mathlib.Core.Bool.{true, false, and-eq-true-iff, false≢true}
+use mathlib.Core.Bool.{true, false, _&&_, and-eq-true-iff, false≢true}
 use mathlib.Core.List.{List, [], _∷_, _++_, append-assoc}
 use lib.ListN.{length, take, drop, replicate, length-append, length-replicate, replicate-append-replicate}
 use lib.Dec.{eqb}
 use borrow.Author.Tests.{eq-eqb, eqb-true}
 use lib.Seq.{take-append-seam, drop-at, drop-drop}
-use Rattle.records.specs.Numeral.{bytes, numeral}
-use Rattle.records.specs.NumeralLaws.{length-bytes, numeral-bytes}
+use Rattle.buffer.specs.Numeral.{bytes, numeral}
+use Rattle.buffer.specs.NumeralLaws.{length-bytes, numeral-bytes}
 use Rattle.entry.specs.Entry.{Entry, free, file, directory, kindNumber, nameOf, parentOf, contentsOf}
-use Rattle.entry.specs.Stored.{padded, entryBytes, encodeEntry, sameBytes, entryOf, readEntry}
+use Rattle.entry.specs.Stored.{padded, entryBytes, encodeEntry, sameBytes, sameEntry, entryOf, readEntry}
 
 -- Bytes that are found to be the same are equal.
 pub same-bytes : (s t : List ℕ) → sameBytes s t ≡ true → s ≡ t
@@ -29,6 +29,29 @@ pub bytes-same : (s : List ℕ) → sameBytes s s ≡ true
 unfolding sameBytes
 bytes-same [] = refl
 bytes-same (a ∷ s) = rw (eq-eqb a a refl) (bytes-same s)
+
+-- Entries that are found to be the same are equal.
+pub same-entry : (d e : Entry) → sameEntry d e ≡ true → d ≡ e
+same-entry free free t = refl
+same-entry free (file m q d) t = absurd (false≢true t)
+same-entry free (directory m q) t = absurd (false≢true t)
+same-entry (file n p c) free t = absurd (false≢true t)
+same-entry (file n p c) (file m q d) t =
+    let h = and-eq-true-iff (sameBytes n m) (eqb p q && sameBytes c d) .0 t in
+    let k = and-eq-true-iff (eqb p q) (sameBytes c d) .0 (h .1) in
+    ap₂ (λ (r : List ℕ) (i : ℕ). file r i c) (same-bytes n m (h .0)) (eqb-true p q (k .0)) ∙ ap (file m q) (same-bytes c d (k .1))
+same-entry (file n p c) (directory m q) t = absurd (false≢true t)
+same-entry (directory n p) free t = absurd (false≢true t)
+same-entry (directory n p) (file m q d) t = absurd (false≢true t)
+same-entry (directory n p) (directory m q) t =
+    let h = and-eq-true-iff (sameBytes n m) (eqb p q && sameBytes [] []) .0 t in
+    let k = and-eq-true-iff (eqb p q) (sameBytes [] []) .0 (h .1) in
+    ap₂ (λ (r : List ℕ) (i : ℕ). directory r i) (same-bytes n m (h .0)) (eqb-true p q (k .0))
+
+-- An entry is found to be the same as itself.
+pub entry-same : (e : Entry) → sameEntry e e ≡ true
+entry-same e =
+    rw (eq-eqb (kindNumber e) (kindNumber e) refl, bytes-same (nameOf e), eq-eqb (parentOf e) (parentOf e) refl) (bytes-same (contentsOf e))
 
 -- Bytes that fit a width have that width with their zeros.
 pub length-padded : (w : ℕ) (s : List ℕ) → length s ≤ w → length (padded w s) ≡ w

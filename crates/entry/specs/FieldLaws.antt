@@ -7,7 +7,7 @@ use mathlib.Core.Path.{_≡_, refl, sym}
 use native.Mathlib.Omega.{arith}
 use lib.Dec.{eqb}
 use lib.ListN.{getD, take, drop}
-use Rattle.records.specs.Numeral.{numeral}
+use Rattle.buffer.specs.Numeral.{numeral}
 use Rattle.entry.specs.Entry.{Entry, free, file, directory, kindNumber, nameOf, parentOf, contentsOf, isUsed, isFile, isDirectory}
 use Rattle.entry.specs.Stored.{entryOf, readEntry}
 

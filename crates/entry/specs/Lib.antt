@@ -2,9 +2,9 @@ pub mod Entry
 pub mod UsageCases
 pub mod Stored
 pub mod Check
+pub mod Code
 pub mod Write
 pub mod EntryLaws
-pub mod ZeroLaws
 pub mod FieldLaws
 pub mod TestLaws
 pub mod CheckLaws

@@ -7,9 +7,14 @@ use mathlib.Core.Path.{_≡_, refl, sym, ap, _∙_}
 use native.Mathlib.Omega.{arith}
 use lib.ListN.{length, getD, take, drop, length-drop}
 use lib.Seq.{take-all, take-add, drop-at, length-take-le}
+use lib.Dec.{eqb}
 use borrow.Author.Tests.{le-leb, lt-leb, eq-eqb, ne-eqb}
 use Rattle.names.specs.Name.{validName}
-use Rattle.entry.specs.Check.{zeros, nameFormed, lengthField, dataFormed, formedAs, entryFormed, rootFormed}
+use Rattle.buffer.specs.Numeral.{numeral}
+use Rattle.entry.specs.Entry.{Entry, kindNumber}
+use Rattle.entry.specs.Stored.{dataAt, entryOf, readEntry}
+use Rattle.buffer.specs.Zero.{zeros}
+use Rattle.entry.specs.Code.Check.{nameFormed, lengthField, dataFormed, formedAs, entryFormed, rootFormed}
 
 -- The bytes from a place on, as many as there are, are all bytes from there on.
 pub take-rest : (n : ℕ) (s : List ℕ) → take (length s - n) (drop n s) ≡ drop n s
@@ -49,23 +54,27 @@ module _ (b : ℕ) (s : List ℕ) (len : ℕ) (e : len ≡ lengthField s) where
   unfolding dataFormed
   data-short h = rw (← e, le-leb len (1024 * b) h)
 
--- the two tests that go by the kind alone
-above : (b k : ℕ) (s : List ℕ) → 2 < k → formedAs b k s ≡ false
+-- the test of a kind's byte with the entry that it tells of, and what it asks of the other bytes
+abbrev told : ℕ → List ℕ → Entry
+told k s = entryOf k (take (getD s 1 0) (drop 4 s)) (numeral (take 2 (drop 2 s))) (take (lengthField s) (drop dataAt s))
+
+abbrev byKind : ℕ → ℕ → List ℕ → Bool
+byKind b k s = eqb k (kindNumber (told k s)) && formedAs b (told k s) s
+
+above : (b k : ℕ) (s : List ℕ) → 2 < k → byKind b k s ≡ false
 above b zero s h = absurd (omega arith)
 above b (suc zero) s h = absurd (omega arith)
-above b (suc (suc zero)) s h = absurd (omega arith)
-above b (suc (suc (suc k))) s h = refl
+above b (suc (suc k)) s h = rw (ne-eqb (suc (suc k)) 2 (λ e. omega arith))
 
-unnamed : (b k : ℕ) (s : List ℕ) → (k ≡ 0 → ⊥) → nameFormed s ≡ false → formedAs b k s ≡ false
+unnamed : (b k : ℕ) (s : List ℕ) → (k ≡ 0 → ⊥) → nameFormed s ≡ false → byKind b k s ≡ false
 unnamed b zero s h n = absurd (h refl)
 unnamed b (suc zero) s h n = rw n
-unnamed b (suc (suc zero)) s h n = rw n
-unnamed b (suc (suc (suc k))) s h n = refl
+unnamed b (suc (suc k)) s h n = rw (n, and-false)
 
 module _ (b : ℕ) (s : List ℕ) (k : ℕ) (e : k ≡ getD s 0 0) where
-  as-kind : (j : ℕ) → k ≡ j → entryFormed b s ≡ formedAs b j s
-  unfolding entryFormed
-  as-kind j q = ap (λ (i : ℕ). formedAs b i s) (sym e ∙ q)
+  as-kind : (j : ℕ) → k ≡ j → entryFormed b s ≡ byKind b j s
+  unfolding entryFormed readEntry
+  as-kind j q = ap (λ (i : ℕ). byKind b i s) (sym e ∙ q)
 
   -- A free entry is well formed where all its bytes are zero.
   pub free-formed : k ≡ 0 → entryFormed b s ≡ zeros s

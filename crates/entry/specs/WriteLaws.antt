@@ -5,14 +5,14 @@ use native.Mathlib.Omega.{arith}
 use mathlib.Core.Path.{_≡_, refl, sym, ap, ap₂, _∙_}
 use mathlib.Core.Bool.{true, false≢true}
 use mathlib.Core.List.{List, [], _++_, append-assoc, append-nil}
-use lib.ListN.{length, take, drop, replicate, length-append, length-drop, length-replicate, take-append-drop, replicate-append-replicate}
+use lib.ListN.{length, take, drop, replicate, length-append, length-take, length-drop, length-replicate, take-append-drop, replicate-append-replicate}
 use lib.Seq.{length-take-le, take-all, take-append-le, take-append-add, drop-at, drop-append-le, drop-append-add}
-use Rattle.records.specs.Numeral.{bytes}
-use Rattle.records.specs.NumeralLaws.{length-bytes}
-use Rattle.records.specs.Patch.{patch}
+use Rattle.buffer.specs.Numeral.{bytes}
+use Rattle.buffer.specs.NumeralLaws.{length-bytes}
+use Rattle.buffer.specs.Patch.{patch}
 use Rattle.entry.specs.Entry.{Entry, free, file, directory, kindNumber, nameOf, parentOf, contentsOf, isFile, refilled}
 use Rattle.entry.specs.Stored.{padded, entryBytes, encodeEntry}
-use Rattle.entry.specs.Write.{headField, written, resized}
+use Rattle.entry.specs.Write.{headField, resized}
 use Rattle.entry.specs.EntryLaws.{length-entry, free-zero}
 
 -- A patch behind the bytes in front of it.
@@ -35,7 +35,7 @@ patch-before x s at v h =
     rw (take-append-le at x s, drop-append-le (at + length v) x s) (simp append-assoc)
 
 -- A patch of all that stands between two parts.
-patch-between : (x y z : List ℕ) (at : ℕ) (v : List ℕ) → length x ≡ at → length y ≡ length v → patch (x ++ (y ++ z)) at v ≡ x ++ (v ++ z)
+pub patch-between : (x y z : List ℕ) (at : ℕ) (v : List ℕ) → length x ≡ at → length y ≡ length v → patch (x ++ (y ++ z)) at v ≡ x ++ (v ++ z)
 patch-between x y z at v l m =
     let k : at ≡ length x + 0 = omega arith in
     rw (k, patch-behind, patch-first y z v m)
@@ -78,11 +78,6 @@ entry-parts : (b : ℕ) (e : Entry) → encodeEntry b e ≡ headOf e ++ (bytes 4
 unfolding encodeEntry headField
 entry-parts b e = simp append-assoc
 
--- Bytes written over others are a patch.
-pub written-patch : (c : List ℕ) (f : ℕ) (s : List ℕ) → written c f s ≡ patch c f s
-unfolding patch
-written-patch c f s = refl
-
 -- An entry under another head.
 pub head-written : (b : ℕ) (x y : Entry) → length (nameOf x) ≤ 60 → length (nameOf y) ≤ 60 → contentsOf y ≡ contentsOf x
     → patch (encodeEntry b x) 0 (headField (kindNumber y) (parentOf y) (nameOf y)) ≡ encodeEntry b y
@@ -90,6 +85,10 @@ head-written b x y h k same =
     let l : length (headOf x) ≡ 64 = length-head _ _ (nameOf x) h in
     let m : length (headOf y) ≡ 64 = length-head _ _ (nameOf y) k in
     rw (entry-parts b x, entry-parts b y, same) (patch-first (headOf x) _ (headOf y) (l ∙ sym m))
+
+-- Contents have the length that is set.
+pub resized-length : (c : List ℕ) (f : ℕ) → length (resized c f) ≡ f
+resized-length c f = simp (length-append, length-take, length-replicate) (omega arith)
 
 -- so many zeros
 abbrev blank : ℕ → List ℕ
@@ -136,14 +135,13 @@ module _ (b : ℕ) (x : Entry) (name : length (nameOf x) ≤ 60) (f : ℕ) (u : 
 -- A file some of whose bytes are written over.
 pub overwritten : (b : ℕ) (x : Entry) (f : ℕ) (u : List ℕ) → isFile x ≡ true → length (nameOf x) ≤ 60 → length (contentsOf x) ≤ 1024 * b
     → f + length u ≤ length (contentsOf x)
-    → patch (encodeEntry b x) (68 + f) u ≡ encodeEntry b (refilled x (written (contentsOf x) f u))
-unfolding patch
+    → patch (encodeEntry b x) (68 + f) u ≡ encodeEntry b (refilled x (patch (contentsOf x) f u))
 overwritten b x f u h name w k =
     let c = contentsOf x in
     data-patch b x name f u
     ∙ ap (λ (r : List ℕ). headOf x ++ (bytes 4 (length c) ++ r)) (patch-before c (blank (1024 * b - length c)) f u k)
-    ∙ ap (λ (i : ℕ). headOf x ++ (bytes 4 i ++ (written c f u ++ blank (1024 * b - i)))) (sym (length-patch c f u k))
-    ∙ sym (refilled-parts b x (written c f u) h)
+    ∙ ap (λ (i : ℕ). headOf x ++ (bytes 4 i ++ (patch c f u ++ blank (1024 * b - i)))) (sym (length-patch c f u k))
+    ∙ sym (refilled-parts b x (patch c f u) h)
 
 -- Padded bytes with others added at their end.
 padded-more : (w : ℕ) (c u : List ℕ) → length c + length u ≤ w → patch (padded w c) (length c) u ≡ padded w (c ++ u)

@@ -9,10 +9,10 @@ use crate::DIRECTORY;
 use crate::FILE;
 use crate::FREE;
 use crate::LENGTH_AT;
-use records::fit::stretch_of;
-use records::number::byte_at;
-use records::number::four_at;
-use records::number::two_at;
+use buffer::number::byte_at;
+use buffer::number::four_at;
+use buffer::number::two_at;
+use buffer::span::stretch_of;
 
 // "kind (1 byte: 0 free, 1 file, 2 directory)".
 pub fn kind(e: &[u8]) -> usize

@@ -3,18 +3,18 @@ ghost use mathlib.Core.Path.{_≡_};
 ghost use Prim.Native.Nat.{_≤_};
 ghost use lib.ListN.{length};
 ghost use Rattle.entry.specs.Stored.{entryBytes};
-ghost use Rattle.entry.specs.Check.{nameFormed, dataFormed, entryFormed, rootFormed};
+ghost use Rattle.entry.specs.Code.Check.{nameFormed, dataFormed, entryFormed, rootFormed};
 use crate::BLOCK;
 use crate::DATA_AT;
 use crate::DIRECTORY;
 use crate::FILE;
 use crate::FREE;
 use crate::LENGTH_AT;
-use crate::zero::all_zero;
+use buffer::number::byte_at;
+use buffer::number::four_at;
+use buffer::zero::all_zero;
 use names::NameText;
 use names::name_text;
-use records::number::byte_at;
-use records::number::four_at;
 
 // "a valid name" of at most 60 bytes, and zeros behind it.
 fn name_formed(e: &[u8]) -> bool

@@ -17,4 +17,3 @@ pub const DIRECTORY: usize = 2;
 pub mod field;
 pub mod form;
 pub mod write;
-pub mod zero;

@@ -3,10 +3,10 @@ ghost use mathlib.Core.Path.{_≡_};
 ghost use Prim.Native.Nat.{_≤_};
 ghost use lib.ListN.{length};
 ghost use Rattle.entry.specs.Write.{headField};
-use crate::zero::clear;
-use records::writer::put_bytes;
-use records::writer::put_one;
-use records::writer::put_two;
+use buffer::put::put_bytes;
+use buffer::put::put_one;
+use buffer::put::put_two;
+use buffer::zero::clear;
 
 // Writes an entry's head, lent as the 64 bytes that it has: kind, name length, parent, name, and zeros behind the name.
 pub fn put_head(head: &mut [u8], kind: usize, parent: usize, name: &[u8])

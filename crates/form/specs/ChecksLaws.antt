@@ -9,25 +9,26 @@ use lib.ListN.{length, getD}
 use lib.Dec.{leb, eqb}
 use borrow.Author.Tests.{leb-true, leb-false, le-leb, lt-leb, eqb-true, eqb-false, ne-eqb, not-true}
 use Rattle.names.specs.Name.{validName, sameName}
-use Rattle.names.specs.NameLaws.{same-equal, equal-same}
-use Rattle.records.specs.Numeral.{Bytes}
-use Rattle.records.specs.ReaderLaws.{bytes-part}
-use Rattle.entry.specs.Entry.{Entry, free, file, directory, isUsed, isDirectory, nameOf, parentOf, contentsOf}
+use Rattle.names.specs.NameLaws.{same-sym}
+use Rattle.buffer.specs.Numeral.{Bytes}
+use Rattle.buffer.specs.NumeralLaws.{bytes-part}
+use Rattle.entry.specs.Entry.{Entry, free, file, directory, root, isUsed, isDirectory, nameOf, parentOf, contentsOf}
 use Rattle.entry.specs.Stored.{entryBytes, encodeEntry, readEntry}
-use Rattle.entry.specs.Check.{entryFormed, rootFormed, sound}
+use Rattle.entry.specs.Code.Check.{entryFormed, rootFormed, sound}
 use Rattle.entry.specs.CheckLaws.{formed-root, root-formed, formed-entry, entry-formed}
-use Rattle.volume.specs.Volume.{Volume, entryAt, every, isChild}
-use Rattle.volume.specs.Form.{climbs, placed, twins}
-use Rattle.volume.specs.FormLaws.{every-inv, every-intro, Placed, placed-inv, placed-intro, Good, well-formed-inv, good-well-formed}
-use Rattle.volume.specs.Stored.{encodeVolume, readVolume}
-use Rattle.volume.specs.StoredLaws.{good-sized, directory-below}
-use Rattle.volume.specs.SearchLaws.{used-below}
-use Rattle.volume.specs.ChangeLaws.{unused-free}
-use Rattle.volume.specs.Lent.{Lent, entryPart, formed, Formed}
-use Rattle.volume.specs.LentLaws.{formed-inv, formed-intro, entry-read, length-read, length-part}
-use Rattle.volume.specs.PartLaws.{encode-part, parts-encode}
-use Rattle.volume.specs.ClimbLaws.{or-other, implies, climbs-root, climbs-step}
-use Rattle.form.specs.Checks.{entriesFormed, parentsFormed, climbsBy, allLead, aloneFrom, allAlone}
+use Rattle.search.specs.Volume.{Volume, entryAt, every, isChild}
+use Rattle.search.specs.Form.{climbs, placed, twins}
+use Rattle.search.specs.FormLaws.{every-inv, every-intro, Placed, placed-inv, placed-intro, Good, well-formed-inv, good-well-formed}
+use Rattle.search.specs.Stored.{encodeVolume, readVolume, formed}
+use Rattle.search.specs.StoredLaws.{good-sized, directory-below}
+use Rattle.search.specs.SearchLaws.{used-below}
+use Rattle.search.specs.ChangeLaws.{unused-free}
+use Rattle.search.specs.Code.Lent.{Lent, entryPart, Formed}
+use Rattle.search.specs.LentLaws.{formed-inv, formed-intro, entry-read, length-read, length-part}
+use Rattle.search.specs.PartLaws.{encode-part, parts-encode}
+use Rattle.search.specs.ClimbLaws.{or-other, implies, climbs-root, climbs-step}
+use Rattle.twins.specs.Code.Checks.{aloneFrom, allAlone}
+use Rattle.form.specs.Code.Checks.{entriesFormed, parentsFormed, climbsBy, allLead}
 
 -- If every number below a bound passes one of two tests, each that fails the first passes the second.
 others-inv : (k : ℕ) (t f : ℕ → Bool) → every k (λ i. t i || f i) ≡ true → (i : ℕ) → i < k → t i ≡ false → f i ≡ true
@@ -76,7 +77,7 @@ twins-swap v i j t =
     and-eq-true-iff (isChild v (parentOf y) j && isChild v (parentOf y) i) (sameName (nameOf y) (nameOf x)) .1 (
       and-eq-true-iff (isChild v (parentOf y) j) (isChild v (parentOf y) i) .1
           (ap (λ (d : ℕ). isChild v d j) p ∙ c .1, ap (λ (d : ℕ). isChild v d i) p ∙ c .0),
-      ap (sameName (nameOf y)) (same-equal (nameOf x) (nameOf y) (a .1)) ∙ equal-same (nameOf y),
+      same-sym (nameOf x) (nameOf y) (a .1),
     )
 
 -- If no entry behind an entry shares parent and name with it, no two entries do.
@@ -95,7 +96,7 @@ alone-apart v a i j h k z = go (leb j i) (twins v i j) refl refl
     go true true e t = absurd (false≢true (sym (later j i k h (omega (arith, leb-true j i e))) ∙ twins-swap v i j t))
 
 -- An entry of a volume with a root has parent 0, or is a used one other than the root.
-parent-cases : {C : Type 0} (v : Volume) (i : ℕ) → entryAt v 0 ≡ directory [] 0 → (parentOf (entryAt v i) ≡ 0 → C)
+parent-cases : {C : Type 0} (v : Volume) (i : ℕ) → entryAt v 0 ≡ root → (parentOf (entryAt v i) ≡ 0 → C)
     → (i < length v → eqb i 0 ≡ false → isUsed (entryAt v i) ≡ true → C) → C
 parent-cases {C} v i r f g = go (isUsed (entryAt v i)) (eqb i 0) refl refl
   where

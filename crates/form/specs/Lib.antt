@@ -1,3 +1,3 @@
-pub mod Checks
+pub mod Code
 pub mod ChecksLaws
 pub mod LoopLaws

@@ -1,65 +1,13 @@
--- What the loops and tests of the form come to: a walk that stops at the first number that fails a test, the climb from child to
--- parent, and two entries that share parent and name. Assumes nothing.
-use Prim.Native.Nat.{ℕ, zero, suc, _+_, _-_, _≤_, _<_}
+-- What the climb from child to parent comes to, step by step. Assumes nothing.
+use Prim.Native.Nat.{ℕ, zero, suc, _-_, _≤_, _<_}
 use native.Mathlib.Omega.{arith}
-use mathlib.Core.Path.{_≡_, refl, sym, ap, _∙_}
+use mathlib.Core.Path.{_≡_, refl}
 use mathlib.Core.List.{List}
-use mathlib.Core.Bool.{Bool, true, false, not, _||_, and-false}
-use lib.ListN.{length, getD, set, replicate, List·getD-eq-default}
-use lib.Seq.{getD-set-same, getD-set-other}
-use lib.Dec.{leb, ltb, eqb}
-use borrow.Author.Tests.{ltb-true, ltb-false, ne-eqb}
-use Rattle.names.specs.Name.{sameName}
-use Rattle.names.specs.NameLaws.{differs-other}
-use Rattle.entry.specs.Entry.{Entry, free, parentOf, nameOf}
-use Rattle.volume.specs.Volume.{Volume, entryAt, every, isChild}
-use Rattle.volume.specs.Form.{twins}
-use Rattle.volume.specs.FormLaws.{every-intro, every-not}
-use Rattle.volume.specs.ClimbLaws.{or-right}
-use Rattle.form.specs.Checks.{climbsBy, aloneFrom}
-
-module _ (k n : ℕ) (f : ℕ → Bool) (size : k ≡ n) where
-  -- One number below a bound that fails a test fails the test of all.
-  pub stopped : (i : ℕ) → i < n → f i ≡ false → false ≡ every k f
-  stopped i h t = sym (every-not k f i (omega arith) t)
-
-  -- If each number up to a bound passes a test, so do all.
-  pub passed : (i : ℕ) → n ≤ i → ((j : ℕ) → j < i → f j ≡ true) → true ≡ every k f
-  passed i h all = sym (every-intro k f (λ j l. all j (omega arith)))
-
--- A list of zeros has 0 in every place.
-pub all-zero : (k j : ℕ) → getD {A = ℕ} (replicate k 0) j 0 ≡ 0
-all-zero zero j = refl
-all-zero (suc k) zero = refl
-all-zero (suc k) (suc j) = all-zero k j
-
--- numbers of the first i entries, and 0 behind them
-abbrev pub Passed : (Entry → ℕ) → Volume → ℕ → List ℕ → Type 0
-Passed f v i l = ((j : ℕ) → j < i → getD l j 0 ≡ f (entryAt v j)) × ((j : ℕ) → i ≤ j → getD l j 0 ≡ 0)
-
-module _ (f : Entry → ℕ) (v : Volume) (i : ℕ) (l : List ℕ) (inv : Passed f v i l) where
-  -- One more number is gathered by storing it.
-  pub gather-next : i < length l → (p : ℕ) → p ≡ f (entryAt v i) → Passed f v (i + 1) (set l i p)
-  gather-next h p e = (λ j m. below j m (ltb j i) refl, λ j m. getD-set-other l i j p 0 (λ z. omega arith) ∙ inv .1 j (omega arith))
-    where
-      below : (j : ℕ) → j < i + 1 → (t : Bool) → ltb j i ≡ t → getD (set l i p) j 0 ≡ f (entryAt v j)
-      below j m true t =
-          let o = ltb-true j i t in
-          getD-set-other l i j p 0 (λ z. omega arith) ∙ inv .0 j o
-      below j m false t =
-          let z : j ≡ i = omega (arith, ltb-false j i t) in
-          rw z (getD-set-same l i p 0 h ∙ e)
-
-  -- Past the last entry all numbers are gathered, where a free entry's is 0.
-  pub gather-ended : f free ≡ 0 → length v ≤ i → (j : ℕ) → getD l j 0 ≡ f (entryAt v j)
-  gather-ended z h j = go (ltb j i) refl
-    where
-      go : (t : Bool) → ltb j i ≡ t → getD l j 0 ≡ f (entryAt v j)
-      go true t = inv .0 j (ltb-true j i t)
-      go false t =
-          let m = ltb-false j i t in
-          let k : length v ≤ j = omega arith in
-          inv .1 j m ∙ sym z ∙ ap f (sym (List·getD-eq-default v free k))
+use mathlib.Core.Bool.{true}
+use lib.ListN.{getD}
+use lib.Dec.{eqb}
+use borrow.Author.Tests.{ne-eqb}
+use Rattle.form.specs.Code.Checks.{climbsBy}
 
 -- 0 leads to 0 in any number of steps.
 pub root-leads : (k : ℕ) (l : List ℕ) (i : ℕ) → i ≡ 0 → true ≡ climbsBy k l i
@@ -78,31 +26,3 @@ pub none-left : (k : ℕ) (l : List ℕ) (i : ℕ) → k ≤ 0 → eqb i 0 ≡ c
 unfolding climbsBy
 none-left zero l i h = refl
 none-left (suc k) l i h = absurd (omega arith)
-
--- An entry does not share parent and name with one of another name.
-pub other-name : (v : Volume) (i j : ℕ) → (nameOf (entryAt v i) ≡ nameOf (entryAt v j) → ⊥) → false ≡ twins v i j
-other-name v i j z = rw (differs-other (nameOf (entryAt v i)) (nameOf (entryAt v j)) z, and-false)
-
-module _ (v : Volume) (i d : ℕ) (p : d ≡ parentOf (entryAt v i)) where
-  -- An entry does not share parent and name with one of another parent.
-  pub other-parent : (j : ℕ) → (parentOf (entryAt v j) ≡ d → ⊥) → false ≡ twins v i j
-  other-parent j z = rw (← p, ne-eqb (parentOf (entryAt v j)) d z, and-false, and-false, and-false)
-
-  -- An entry that is no child of its parent shares parent and name with none.
-  pub no-child : (j : ℕ) → isChild v d i ≡ false → false ≡ twins v i j
-  no-child j t = rw (rw p at t)
-
-  -- An entry does not share parent and name with one that is no child of its parent.
-  pub other-no-child : (j : ℕ) → isChild v d j ≡ false → false ≡ twins v i j
-  other-no-child j t = rw (rw p at t, and-false)
-
-  -- Two children of a directory share parent and name if they share the name.
-  pub both-children : (j : ℕ) → isChild v d i ≡ true → isChild v d j ≡ true → (r : Bool) (x y : List ℕ) → r ≡ sameName x y
-      → x ≡ nameOf (entryAt v i) → y ≡ nameOf (entryAt v j) → r ≡ twins v i j
-  both-children j t u r x y e f g = rw (rw p at t, rw p at u, ← f, ← g) e
-
-  -- An entry that is no child of its parent is alone.
-  pub no-child-alone : isChild v d i ≡ false → true ≡ aloneFrom v i
-  unfolding aloneFrom
-  no-child-alone t =
-      sym (every-intro (length v) (λ j. leb j i || not (twins v i j)) (λ j h. or-right (leb j i) _ (ap not (sym (no-child j t)))))

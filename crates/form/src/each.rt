@@ -1,10 +1,10 @@
 // The form of each entry by itself: kind, name, length, and zeros where nothing is in use.
 ghost use mathlib.Core.Path.{_≡_};
-ghost use Rattle.volume.specs.Lent.{Lent};
-ghost use Rattle.form.specs.Checks.{entriesFormed};
+ghost use Rattle.search.specs.Code.Lent.{Lent};
+ghost use Rattle.form.specs.Code.Checks.{entriesFormed};
 use entry::form::entry_formed;
 use entry::form::root_formed;
-use volume::entries::entry;
+use search::entries::entry;
 
 // Whether the root and each other entry are well formed by themselves.
 pub fn entries_formed(s: &[u8], n: usize, b: usize) -> bool

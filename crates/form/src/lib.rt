@@ -1,19 +1,17 @@
 // The form of a volume (document 01, "Geometry and stored form"), for any bytes.
 ghost use mathlib.Core.Path.{_≡_};
-ghost use Rattle.volume.specs.Lent.{formed};
+ghost use Rattle.search.specs.Stored.{formed};
 
-pub mod digest;
 pub mod each;
 pub mod parents;
-pub mod twins;
 
-use crate::digest::digests_of;
 use crate::each::entries_formed;
 use crate::parents::all_lead;
 use crate::parents::parents_formed;
 use crate::parents::parents_of;
-use crate::twins::all_alone;
-use volume::entries::is_lent;
+use search::entries::is_lent;
+use twins::digest::digests_of;
+use twins::twins::all_alone;
 
 // Whether a slice is a well-formed volume of n objects and b blocks a file.
 pub fn well_formed(s: &[u8], n: usize, b: usize) -> bool

@@ -1,13 +1,14 @@
 // The parents: "a used directory as parent, the parents lead to 0".
 ghost use mathlib.Core.Path.{_≡_};
 ghost use Prim.Native.Nat.{_≤_, _<_};
-ghost use Rattle.volume.specs.Stored.{readVolume};
-ghost use Rattle.volume.specs.Lent.{Lent};
-ghost use Rattle.form.specs.Checks.{Gathered, Numbers, parented, parentsFormed, climbsBy, allLead};
+ghost use Rattle.search.specs.Stored.{readVolume};
+ghost use Rattle.search.specs.Code.Lent.{Lent};
+ghost use Rattle.twins.specs.Code.Checks.{Gathered};
+ghost use Rattle.form.specs.Code.Checks.{Numbers, parented, parentsFormed, climbsBy, allLead};
 use entry::field::is_directory;
 use entry::field::is_used;
 use entry::field::parent;
-use volume::entries::entry;
+use search::entries::entry;
 
 // Whether an entry other than the root is free or has a used directory as parent.
 fn is_parented(s: &[u8], n: usize, b: usize, i: usize) -> bool

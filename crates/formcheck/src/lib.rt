@@ -2,7 +2,7 @@
 ghost use mathlib.Core.Path.{_≡_};
 ghost use Rattle.formcheck.specs.Number.{formNumber};
 use form::well_formed;
-use volume::entries::is_lent;
+use search::entries::is_lent;
 
 // The number that document 01 gives to bytes lent as a volume of n objects and b blocks a file.
 #[no_mangle]

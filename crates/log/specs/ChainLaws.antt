@@ -11,7 +11,7 @@ use Rattle.records.specs.Operation.{Record, operands}
 use Rattle.records.specs.Fields.{member}
 use Rattle.log.specs.Programs.{holds, with}
 use Rattle.log.specs.ProgramLaws.{holds-with}
-use Rattle.log.specs.Slot.{Slot, slotOf, isWaiting, sequenceOf}
+use Rattle.log.specs.Slot.{Slot, withDependents, isWaiting, sequenceOf}
 use Rattle.log.specs.Order.{shares, touches}
 use Rattle.log.specs.OrderLaws.{Rising, or-cases, or-left, or-right}
 use Rattle.log.specs.Depend.{reach, noted}
@@ -155,7 +155,7 @@ noted-slot p ops (s ∷ l) rise t m = ⊎-elim first (λ (k : List·Memᴰ t (no
     iff : Chain ops (waitingOf (s ∷ l)) (s .loss) ↔ Chain ops (waitingOf l) (s .loss)
     iff = chain-tail ops s l rise (s .loss) (omega arith)
 
-    made : (w c : Bool) → isWaiting s ≡ w → shares o (reach ops l) ≡ c → NotedFrom p ops (s ∷ l) (cond (w && c) (slotOf (s .state) (with (s .dependents) p) (s .loss)) s)
+    made : (w c : Bool) → isWaiting s ≡ w → shares o (reach ops l) ≡ c → NotedFrom p ops (s ∷ l) (cond (w && c) (withDependents (with (s .dependents) p) s) s)
     made true true w c =
         record {
           was = s;
@@ -193,7 +193,7 @@ noted-slot p ops (s ∷ l) rise t m = ⊎-elim first (λ (k : List·Memᴰ t (no
           bits = λ h q. let y : true ≡ false = sym h ∙ w in let n : _≡_ {A = ℕ} 0 1 = cc in absurd (omega arith);
         }
 
-    first : t ≡ cond (isWaiting s && shares o (reach ops l)) (slotOf (s .state) (with (s .dependents) p) (s .loss)) s → NotedFrom p ops (s ∷ l) t
+    first : t ≡ cond (isWaiting s && shares o (reach ops l)) (withDependents (with (s .dependents) p) s) s → NotedFrom p ops (s ∷ l) t
     first e = subst (NotedFrom p ops (s ∷ l)) (sym e) (made (isWaiting s) (shares o (reach ops l)) refl refl)
 
     later : NotedFrom p ops l t → NotedFrom p ops (s ∷ l) t

@@ -5,9 +5,9 @@ use mathlib.Core.Bool.{Bool, true, false, not, _&&_, _||_, cond}
 use mathlib.Core.Option.{Option, none, some}
 use lib.ListN.{length}
 use lib.Dec.{leb, eqb}
-use Rattle.records.specs.Operation.{Operation, Record, operands}
+use Rattle.records.specs.Operation.{Operation, Record}
 use Rattle.log.specs.Programs.{holds, with, without, union}
-use Rattle.log.specs.Slot.{State, waiting, lost, Slot, slotOf, Log, logOf, isWaiting, sequenceOf}
+use Rattle.log.specs.Slot.{State, waiting, lost, Slot, withState, withDependents, Log, withNext, withMarks, withSlots, isWaiting, sequenceOf}
 use Rattle.log.specs.Depend.{noted}
 
 -- the waiting operations, in issue order
@@ -17,18 +17,17 @@ waitingOf (s ∷ l) = cond (isWaiting s) (s .loss ∷ waitingOf l) (waitingOf l)
 
 -- an accepted call brings the dependence of its program on what its operands reach
 abbrev pub note : ℕ → List ℕ → Log → Log
-note p ops l = logOf (l .next) (l .marks) (noted p ops (l .slots))
+note p ops l = withSlots (noted p ops (l .slots)) l
 
--- "takes one sequence number and waits"; the issuer depends on what it issued
-unfoldable pub issueOne : ℕ → Operation → Log → Log
-issueOne p o l =
-    let k = note p (operands o) l in
-    logOf (l .next + 1) (l .marks) (k .slots ++ (slotOf waiting (with 0 p) (record { sequence = l .next; program = p; operation = o }) ∷ []))
+-- an operation waits, and its issuer depends on it
+abbrev pub waitingSlot : Record → Slot
+waitingSlot r = record { state = waiting; dependents = with 0 (r .program); loss = r }
 
--- the operations that one call issues, one after the other
-unfoldable pub issue : ℕ → List Operation → Log → Log
-issue p [] l = l
-issue p (o ∷ os) l = issue p os (issueOne p o l)
+-- "takes one sequence number and waits"
+unfoldable pub issue : ℕ → Operation → Log → Log
+issue p o l =
+    let r : Record = record { sequence = l .next; program = p; operation = o } in
+    withNext (l .next + 1) (withSlots (l .slots ++ (waitingSlot r ∷ [])) l)
 
 -- "frees its slot": "later slots move down by one"
 unfoldable pub removed : (Slot → Bool) → List Slot → List Slot
@@ -40,18 +39,18 @@ isSequence n s = isWaiting s && eqb (sequenceOf s) n
 
 -- "Push sends the waiting operation of a given sequence number and frees its slot."
 abbrev pub sent : ℕ → Log → Log
-sent n l = logOf (l .next) (l .marks) (removed (isSequence n) (l .slots))
+sent n l = withSlots (removed (isSequence n) (l .slots)) l
 
 -- "Cut turns all waiting ones into lost ones, marks the dependents"
 abbrev pub discarded : Slot → Slot
-discarded s = cond (isWaiting s) (slotOf lost 0 (s .loss)) s
+discarded s = cond (isWaiting s) (withState lost (withDependents 0 s)) s
 
 unfoldable pub dependentsOf : List Slot → ℕ
 dependentsOf [] = 0
 dependentsOf (s ∷ l) = union (cond (isWaiting s) (s .dependents) 0) (dependentsOf l)
 
 unfoldable pub discard : Log → Log
-discard l = logOf (l .next) (union (l .marks) (dependentsOf (l .slots))) (map discarded (l .slots))
+discard l = withMarks (union (l .marks) (dependentsOf (l .slots))) (withSlots (map discarded (l .slots)) l)
 
 -- "Take writes the earliest loss of a program and frees its slot."
 abbrev pub isLossOf : ℕ → Slot → Bool
@@ -62,11 +61,11 @@ earliest f [] = none
 earliest f (s ∷ l) = cond (f s) (some (s .loss)) (earliest f l)
 
 abbrev pub taken : ℕ → Log → Log
-taken p l = logOf (l .next) (l .marks) (removed (isLossOf p) (l .slots))
+taken p l = withSlots (removed (isLossOf p) (l .slots)) l
 
 -- "Renew clears its mark."
 abbrev pub renewed : ℕ → Log → Log
-renewed p l = logOf (l .next) (without (l .marks) p) (l .slots)
+renewed p l = withMarks (without (l .marks) p) l
 
 -- the waiting operation of a sequence number
 unfoldable pub waitingAt : ℕ → Log → Option Record

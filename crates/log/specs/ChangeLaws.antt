@@ -12,13 +12,13 @@ use borrow.Author.Tests.{ltb-true, lt-ltb, eqb-true, eq-eqb, ne-eqb, not-true}
 use Rattle.records.specs.Operation.{Operation, Record, operands}
 use Rattle.records.specs.Fields.{valid, fits}
 use Rattle.log.specs.Programs.{holds, with}
-use Rattle.log.specs.Slot.{State, waiting, lost, stateNumber, Slot, slotOf, Log, logOf, isWaiting, sequenceOf, goodSlots, follows, rising, wellFormed}
-use Rattle.log.specs.Order.{shares, some?}
+use Rattle.log.specs.Slot.{State, waiting, lost, stateNumber, Slot, withState, withDependents, Log, withSlots, isWaiting, sequenceOf, goodSlots, follows, rising, wellFormed}
+use Rattle.log.specs.Order.{shares, any}
 use Rattle.log.specs.Depend.{reach, noted}
-use Rattle.log.specs.Change.{waitingOf, note, issueOne, removed, isSequence, sent, discarded, dependentsOf, discard, isLossOf, earliest, taken, renewed, waitingAt}
+use Rattle.log.specs.Change.{waitingOf, note, waitingSlot, issue, removed, isSequence, sent, discarded, dependentsOf, discard, isLossOf, earliest, taken, renewed, waitingAt}
 use Rattle.log.specs.ProgramLaws.{with-below, without-below, union-below, holds-without, holds-union, holds-none}
 use Rattle.log.specs.SlotLaws.{and-both, GoodSlot, slots-inv, slots-of, formed-inv, formed-of}
-use Rattle.log.specs.OrderLaws.{or-left, some-none, InOrder}
+use Rattle.log.specs.OrderLaws.{or-left, any-none, InOrder}
 
 then-inv : (a b : Bool) → (not a || b) ≡ true → a ≡ true → b ≡ true
 then-inv true b h e = h
@@ -69,7 +69,7 @@ rising-of next (s ∷ t ∷ l) o =
 pub discarded-lost : (s : Slot) → (discarded s .state ≡ lost) × (discarded s .loss ≡ s .loss)
 discarded-lost s = on (s .state) (s .dependents) (s .loss)
   where
-    on : (t : State) (d : ℕ) (r : Record) → (discarded (slotOf t d r) .state ≡ lost) × (discarded (slotOf t d r) .loss ≡ r)
+    on : (t : State) (d : ℕ) (r : Record) → (discarded (record { state = t; dependents = d; loss = r }) .state ≡ lost) × (discarded (record { state = t; dependents = d; loss = r }) .loss ≡ r)
     on waiting d r = (refl, refl)
     on lost d r = (refl, refl)
 
@@ -84,7 +84,7 @@ discard-waiting l = all (l .slots)
 
 -- what a call leaves of one slot
 abbrev noting : ℕ → Bool → Slot → Slot
-noting p t s = cond t (slotOf (s .state) (with (s .dependents) p) (s .loss)) s
+noting p t s = cond t (withDependents (with (s .dependents) p) s) s
 
 noting-state : (p : ℕ) (t : Bool) (s : Slot) → noting p t s .state ≡ s .state
 noting-state p true s = refl
@@ -176,11 +176,9 @@ waiting-append (s ∷ u) v = rw (waiting-append u v) (go (isWaiting s))
     go false = refl
 
 -- the operation that a call issues waits last
-pub issueOne-waiting : (p : ℕ) (o : Operation) (l : Log) → waitingOf (issueOne p o l .slots) ≡ waitingOf (l .slots) ++ (record { sequence = l .next; program = p; operation = o } ∷ [])
-unfolding issueOne waitingOf
-issueOne-waiting p o l =
-    let r : Record = record { sequence = l .next; program = p; operation = o } in
-    waiting-append (noted p (operands o) (l .slots)) (slotOf waiting (with 0 p) r ∷ []) ∙ ap (λ (k : List Record). k ++ (r ∷ [])) (noted-waiting p (operands o) (l .slots))
+pub issue-waiting : (p : ℕ) (o : Operation) (l : Log) → waitingOf (issue p o l .slots) ≡ waitingOf (l .slots) ++ (record { sequence = l .next; program = p; operation = o } ∷ [])
+unfolding issue waitingOf
+issue-waiting p o l = waiting-append (l .slots) (waitingSlot (record { sequence = l .next; program = p; operation = o }) ∷ [])
 
 good-append : (n b : ℕ) (l : List Slot) (s : Slot) → goodSlots n b l ≡ true → GoodSlot n b s → goodSlots n b (l ++ (s ∷ [])) ≡ true
 unfolding goodSlots
@@ -201,26 +199,22 @@ rising-append next (t ∷ u ∷ l) s h e w =
     and-both (follows t u) (rising (next + 1) (u ∷ (l ++ (s ∷ [])))) (g .0) (rising-append next (u ∷ l) s (g .1) e w)
 
 -- "takes one sequence number and waits": with a free slot and a number left, the log stays well formed
-pub issueOne-good : (n b m p : ℕ) (o : Operation) (l : Log) → p < 32 → wellFormed n b m l ≡ true → length (l .slots) < m → l .next < 4294967295
+pub issue-good : (n b m p : ℕ) (o : Operation) (l : Log) → p < 32 → wellFormed n b m l ≡ true → length (l .slots) < m → l .next < 4294967295
     → valid (record { sequence = l .next; program = p; operation = o }) ≡ true → fits n b (record { sequence = l .next; program = p; operation = o }) ≡ true
-    → wellFormed n b m (issueOne p o l) ≡ true
-unfolding issueOne
-issueOne-good n b m p o l h w c x v t =
+    → wellFormed n b m (issue p o l) ≡ true
+unfolding issue
+issue-good n b m p o l h w c x v t =
     let f = formed-inv n b m l w in
-    let r : Record = record { sequence = l .next; program = p; operation = o } in
-    let s = slotOf waiting (with 0 p) r in
-    let k = noted p (operands o) (l .slots) in
-    let e = noted-length p (operands o) (l .slots) in
-    let a = length-append k (s ∷ []) in
-    formed-of n b m (issueOne p o l)
+    let s = waitingSlot (record { sequence = l .next; program = p; operation = o }) in
+    let a = length-append (l .slots) (s ∷ []) in
+    formed-of n b m (issue p o l)
     (record {
       from-one = omega arith;
       in-four = omega arith;
       marks-small = f .marks-small;
       count = omega arith;
-      good = good-append n b k s (noted-good n b p (operands o) (l .slots) h (f .good))
-          (record { sound = v; fit = t; small = with-below 0 p (omega arith) h; none-if-lost = refl });
-      order = rising-append (l .next) k s (noted-rising (l .next) p (operands o) (l .slots) ∙ f .order) refl refl;
+      good = good-append n b (l .slots) s (f .good) (record { sound = v; fit = t; small = with-below 0 p (omega arith) h; none-if-lost = refl });
+      order = rising-append (l .next) (l .slots) s (f .order) refl refl;
     })
 
 -- where the earliest slot that passes a test stands, what it holds, and what its removal leaves
@@ -229,14 +223,14 @@ pub record Found (f : Slot → Bool) (l : List Slot) (r : Record) : Type 0 where
   pub slot : Slot
   pub after : List Slot
   pub stands : l ≡ before ++ (slot ∷ after)
-  pub first : some? f before ≡ false
+  pub first : any f before ≡ false
   pub passes : f slot ≡ true
   pub tells : slot .loss ≡ r
   pub leaves : removed f l ≡ before ++ after
 
 -- what is told of the earliest slot is found, and just that slot is removed
 pub earliest-found : (f : Slot → Bool) (l : List Slot) (r : Record) → earliest f l ≡ some r → Found f l r
-unfolding earliest removed some?
+unfolding earliest removed any
 earliest-found f [] r e = let z : _≡_ {A = ℕ} 0 1 = cc in absurd (omega arith)
 earliest-found f (s ∷ l) r e = go (f s) refl e (earliest-found f l r)
   where
@@ -266,13 +260,13 @@ earliest-found f (s ∷ l) r e = go (f s) refl e (earliest-found f l r)
         }
 
 -- where no earliest slot is told of, none passes and none is removed
-pub earliest-none : (f : Slot → Bool) (l : List Slot) → earliest f l ≡ none → (some? f l ≡ false) × (removed f l ≡ l)
-unfolding earliest removed some?
+pub earliest-none : (f : Slot → Bool) (l : List Slot) → earliest f l ≡ none → (any f l ≡ false) × (removed f l ≡ l)
+unfolding earliest removed any
 earliest-none f [] e = (refl, refl)
 earliest-none f (s ∷ l) e = go (f s) refl e (earliest-none f l)
   where
-    go : (t : Bool) → f s ≡ t → cond t (some (s .loss)) (earliest f l) ≡ none → (earliest f l ≡ none → (some? f l ≡ false) × (removed f l ≡ l))
-        → ((t || some? f l) ≡ false) × (cond t l (s ∷ removed f l) ≡ s ∷ l)
+    go : (t : Bool) → f s ≡ t → cond t (some (s .loss)) (earliest f l) ≡ none → (earliest f l ≡ none → (any f l ≡ false) × (removed f l ≡ l))
+        → ((t || any f l) ≡ false) × (cond t l (s ∷ removed f l) ≡ s ∷ l)
     go true h k down = let z : _≡_ {A = ℕ} 0 1 = cc in absurd (omega arith)
     go false h k down = let w = down k in (w .0, λ i. s ∷ w .1 i)
 
@@ -315,12 +309,12 @@ removed-ordered next f (s ∷ l) o = go (f s) (removed-ordered next f l (o .2))
     go false r = (o .0, λ t m. o .1 t (removed-in f l m), r)
 
 -- "frees its slot": freeing a slot keeps the log well formed
-pub removed-formed : (n b m : ℕ) (f : Slot → Bool) (l : Log) → wellFormed n b m l ≡ true → wellFormed n b m (logOf (l .next) (l .marks) (removed f (l .slots))) ≡ true
+pub removed-formed : (n b m : ℕ) (f : Slot → Bool) (l : Log) → wellFormed n b m l ≡ true → wellFormed n b m (withSlots (removed f (l .slots)) l) ≡ true
 removed-formed n b m f l w =
     let g = formed-inv n b m l w in
     let e = removed-length f (l .slots) in
     let c = g .count in
-    formed-of n b m (logOf (l .next) (l .marks) (removed f (l .slots)))
+    formed-of n b m (withSlots (removed f (l .slots)) l)
     (record {
       from-one = g .from-one;
       in-four = g .in-four;
@@ -359,7 +353,7 @@ renewed-good n b m p l w =
 discarded-good : (n b : ℕ) (s : Slot) → GoodSlot n b s → GoodSlot n b (discarded s)
 discarded-good n b s g = go (isWaiting s)
   where
-    go : (t : Bool) → GoodSlot n b (cond t (slotOf lost 0 (s .loss)) s)
+    go : (t : Bool) → GoodSlot n b (cond t (withState lost (withDependents 0 s)) s)
     go true = record { sound = g .sound; fit = g .fit; small = omega arith; none-if-lost = refl }
     go false = g
 
@@ -407,8 +401,8 @@ abbrev pub dependsOn : ℕ → Slot → Bool
 dependsOn p s = isWaiting s && holds (s .dependents) p
 
 -- the dependents of a log are the programs that depend on some waiting operation
-pub holds-dependents : (l : List Slot) (p : ℕ) → p < 32 → holds (dependentsOf l) p ≡ some? (dependsOn p) l
-unfolding dependentsOf some?
+pub holds-dependents : (l : List Slot) (p : ℕ) → p < 32 → holds (dependentsOf l) p ≡ any (dependsOn p) l
+unfolding dependentsOf any
 holds-dependents [] p h = holds-none p
 holds-dependents (s ∷ l) p h =
     holds-union (cond (isWaiting s) (s .dependents) 0) (dependentsOf l) p h ∙ (λ i. one (isWaiting s) (s .dependents) i || holds-dependents l p h i)
@@ -418,7 +412,7 @@ holds-dependents (s ∷ l) p h =
     one false d = holds-none p
 
 -- "marks the dependents": a cut marks exactly those programs besides
-pub discard-marks : (l : Log) (p : ℕ) → p < 32 → holds (discard l .marks) p ≡ (holds (l .marks) p || some? (dependsOn p) (l .slots))
+pub discard-marks : (l : Log) (p : ℕ) → p < 32 → holds (discard l .marks) p ≡ (holds (l .marks) p || any (dependsOn p) (l .slots))
 unfolding discard
 discard-marks l p h = holds-union (l .marks) (dependentsOf (l .slots)) p h ∙ (λ i. holds (l .marks) p || holds-dependents (l .slots) p h i)
 
@@ -560,6 +554,6 @@ pub none-waiting : (k : ℕ) (l : Log) → waitingAt k l ≡ none → {r : Recor
 unfolding waitingAt
 none-waiting k l e m h =
     let u = waiting-in (l .slots) m in
-    let f = some-none (isSequence k) (l .slots) (earliest-none (isSequence k) (l .slots) e .0) (u .0) (u .1) in
+    let f = any-none (isSequence k) (l .slots) (earliest-none (isSequence k) (l .slots) e .0) (u .0) (u .1) in
     let g = and-both (isWaiting (u .0)) (eqb (sequenceOf (u .0)) k) (u .2) (eq-eqb (sequenceOf (u .0)) k (sym (ap (λ (x : Record). x .sequence) (u .3)) ∙ h)) in
     false≢true (sym f ∙ g)

@@ -4,7 +4,7 @@ use mathlib.Core.List.{List, [], _∷_, _++_}
 use mathlib.Core.Bool.{Bool, true, false, _&&_, cond}
 use Rattle.records.specs.Operation.{operands}
 use Rattle.log.specs.Programs.{with}
-use Rattle.log.specs.Slot.{Slot, slotOf, isWaiting}
+use Rattle.log.specs.Slot.{Slot, withDependents, isWaiting}
 use Rattle.log.specs.Order.{shares}
 
 -- "a later successful call of its own has an operand which that operation, directly or through a chain of touching
@@ -19,5 +19,5 @@ reach ops (s ∷ l) =
 unfoldable pub noted : ℕ → List ℕ → List Slot → List Slot
 noted p ops [] = []
 noted p ops (s ∷ l) =
-    cond (isWaiting s && shares (operands (s .loss .operation)) (reach ops l)) (slotOf (s .state) (with (s .dependents) p) (s .loss)) s
+    cond (isWaiting s && shares (operands (s .loss .operation)) (reach ops l)) (withDependents (with (s .dependents) p) s) s
     ∷ noted p ops l

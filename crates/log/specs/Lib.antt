@@ -4,10 +4,8 @@ pub mod Stored
 pub mod Order
 pub mod Depend
 pub mod Change
-pub mod Predecessors
 pub mod OrderCases
 pub mod OrderLaws
-pub mod PredecessorLaws
 pub mod SlotLaws
 pub mod StoredLaws
 pub mod ProgramLaws

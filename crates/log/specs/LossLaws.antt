@@ -9,10 +9,10 @@ use lib.Dec.{eqb}
 use borrow.Author.Tests.{eqb-true, ne-eqb}
 use Rattle.records.specs.Operation.{Operation, Record, operands}
 use Rattle.log.specs.Programs.{with}
-use Rattle.log.specs.Slot.{waiting, stateNumber, Slot, slotOf, Log, isWaiting, sequenceOf}
+use Rattle.log.specs.Slot.{waiting, stateNumber, Slot, withDependents, Log, isWaiting, sequenceOf}
 use Rattle.log.specs.Order.{shares}
 use Rattle.log.specs.Depend.{reach, noted}
-use Rattle.log.specs.Change.{waitingOf, issueOne, removed, isSequence, discarded, isLossOf, earliest, lossesOf}
+use Rattle.log.specs.Change.{waitingOf, waitingSlot, issue, removed, isSequence, discarded, isLossOf, earliest, lossesOf}
 use Rattle.log.specs.ChangeLaws.{Ordered, discarded-lost}
 use Rattle.log.specs.PartitionLaws.{picked}
 
@@ -27,7 +27,7 @@ noted-lost p q ops [] = refl
 noted-lost p q ops (s ∷ l) = go (isWaiting s && shares (operands (s .loss .operation)) (reach ops l)) (noted-lost p q ops l)
   where
     go : (t : Bool) → lossesOf p (noted q ops l) ≡ lossesOf p l
-        → lossesOf p (cond t (slotOf (s .state) (with (s .dependents) q) (s .loss)) s ∷ noted q ops l) ≡ lossesOf p (s ∷ l)
+        → lossesOf p (cond t (withDependents (with (s .dependents) q) s) s ∷ noted q ops l) ≡ lossesOf p (s ∷ l)
     go true e = ap (λ (x : List Record). cond (isLossOf p s) (s .loss ∷ x) x) e
     go false e = ap (λ (x : List Record). cond (isLossOf p s) (s .loss ∷ x) x) e
 
@@ -41,11 +41,9 @@ append-lost p (s ∷ u) v = go (isLossOf p s) (append-lost p u v)
     go false e = e
 
 -- what is issued waits
-pub issueOne-lost : (p q : ℕ) (o : Operation) (l : Log) → lossesOf p (issueOne q o l .slots) ≡ lossesOf p (l .slots)
-unfolding issueOne lossesOf
-issueOne-lost p q o l =
-    append-lost p (noted q (operands o) (l .slots)) (slotOf waiting (with 0 q) (record { sequence = l .next; program = q; operation = o }) ∷ [])
-    ∙ append-nil (lossesOf p (noted q (operands o) (l .slots))) ∙ noted-lost p q (operands o) (l .slots)
+pub issue-lost : (p q : ℕ) (o : Operation) (l : Log) → lossesOf p (issue q o l .slots) ≡ lossesOf p (l .slots)
+unfolding issue lossesOf
+issue-lost p q o l = append-lost p (l .slots) (waitingSlot (record { sequence = l .next; program = q; operation = o }) ∷ []) ∙ append-nil (lossesOf p (l .slots))
 
 waits-no-loss : (p : ℕ) (s : Slot) → isWaiting s ≡ true → isLossOf p s ≡ false
 waits-no-loss p s e = ap (λ (b : Bool). not b && eqb (s .loss .program) p) e

@@ -3,6 +3,7 @@ use Prim.Native.Nat.{ℕ, _+_}
 use mathlib.Core.Path.{_≡_}
 use mathlib.Core.List.{List, [], _∷_, List·Memᴰ}
 use mathlib.Core.Bool.{Bool, true, false, not, _&&_, _||_, cond}
+use mathlib.Core.Option.{Option, none, some}
 use lib.ListN.{length}
 use lib.Dec.{ltb, eqb}
 use Rattle.records.specs.Operation.{Operation, createFile, makeDirectory, remove, rename, overwrite, append, setLength, forder, Record, operands}
@@ -20,25 +21,35 @@ touches a b = shares (operands a) (operands b)
 abbrev pub overlap : ℕ → List ℕ → ℕ → List ℕ → Bool
 overlap f c g d = ltb f (g + length d) && ltb g (f + length c)
 
--- what is asked of the stretch of an overwrite; nothing of any other operation
-abbrev pub ofOverwrite : Operation → (ℕ → List ℕ → Bool) → Bool
-ofOverwrite (createFile o p n) k = true
-ofOverwrite (makeDirectory o p n) k = true
-ofOverwrite (remove o p n) k = true
-ofOverwrite (rename o p q d n m) k = true
-ofOverwrite (overwrite o f c) k = k f c
-ofOverwrite (append o f c) k = true
-ofOverwrite (setLength o f) k = true
-ofOverwrite (forder l) k = true
+-- what an overwrite writes and where; none of any other operation
+pub record Stretch : Type 0 where
+  pub offset : ℕ
+  pub content : List ℕ
+
+abbrev pub overwriteOf : Operation → Option Stretch
+overwriteOf (createFile o p n) = none
+overwriteOf (makeDirectory o p n) = none
+overwriteOf (remove o p n) = none
+overwriteOf (rename o p q d n m) = none
+overwriteOf (overwrite o f c) = some (record { offset = f; content = c })
+overwriteOf (append o f c) = none
+overwriteOf (setLength o f) = none
+overwriteOf (forder l) = none
+
+-- two overwrites, and no common byte
+abbrev pub separate : Option Stretch → Option Stretch → Bool
+separate none t = false
+separate (some s) none = false
+separate (some s) (some t) = not (overlap (s .offset) (s .content) (t .offset) (t .content))
 
 -- "A directly precedes B if it touches B and they are not two overwrites; two overwrites with a common byte are ordered too"
 unfoldable pub directlyPrecedes : Operation → Operation → Bool
-directlyPrecedes a b = touches a b && ofOverwrite a (λ f c. ofOverwrite b (λ g d. overlap f c g d))
+directlyPrecedes a b = touches a b && not (separate (overwriteOf a) (overwriteOf b))
 
 -- some member of a list passes a test
-unfoldable pub some? : {A : Type 0} → (A → Bool) → List A → Bool
-some? f [] = false
-some? f (a ∷ l) = f a || some? f l
+unfoldable pub any : {A : Type 0} → (A → Bool) → List A → Bool
+any f [] = false
+any f (a ∷ l) = f a || any f l
 
 -- of a list in issue order, those that a test picks and whatever precedes one of them, directly or through others: from the
 -- last to the first, each that directly precedes one found so far
@@ -46,19 +57,25 @@ unfoldable pub closure : {A : Type 0} → (A → Bool) → (A → A → Bool) �
 closure pick before [] = []
 closure pick before (a ∷ l) =
     let c = closure pick before l in
-    cond (pick a || some? (before a) c) (a ∷ c) c
+    cond (pick a || any (before a) c) (a ∷ c) c
+
+-- "A earlier than B .. directly precedes B", of two records
+abbrev pub before : Record → Record → Bool
+before a b = ltb (a .sequence) (b .sequence) && directlyPrecedes (a .operation) (b .operation)
 
 -- "It needs d sends: all waiting operations with that object as operand and their predecessors, in issue order."
 unfoldable pub needed : ℕ → List Record → List Record
-needed o l =
-    closure (λ r. member o (operands (r .operation))) (λ a b. directlyPrecedes (a .operation) (b .operation)) l
+needed o l = closure (λ r. member o (operands (r .operation))) before l
 
--- "a predecessor waits": some earlier operation of a list directly precedes a given one. That none precedes it through others
--- either is `not-first` of OrderLaws
-unfoldable pub directWaits : List Record → Record → Bool
-directWaits l b = some? (λ a. ltb (a .sequence) (b .sequence) && directlyPrecedes (a .operation) (b .operation)) l
+-- the operations of a list that precede a given one, directly or through others, in issue order
+unfoldable pub predecessors : List Record → Record → List Record
+predecessors l b = closure (λ a. before a b) before l
+
+-- "a predecessor waits": of the operations of a list some precedes a given one
+unfoldable pub preceded : List Record → Record → Bool
+preceded l b = ltb 0 (length (predecessors l b))
 
 -- "An operation precedes another also through a third and further ones": by a chain within a list
-pub data Precedes (l : List Record) : Record → Record → Type 0 where
-  direct : {a b : Record} → ltb (a .sequence) (b .sequence) ≡ true → directlyPrecedes (a .operation) (b .operation) ≡ true → Precedes l a b
-  through : {a b c : Record} → List·Memᴰ c l → Precedes l a c → Precedes l c b → Precedes l a b
+pub data PrecedesIn (l : List Record) : Record → Record → Type 0 where
+  direct : {a b : Record} → before a b ≡ true → PrecedesIn l a b
+  through : {a b c : Record} → List·Memᴰ c l → PrecedesIn l a c → PrecedesIn l c b → PrecedesIn l a b

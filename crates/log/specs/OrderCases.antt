@@ -7,10 +7,9 @@ use mathlib.Core.Option.{none}
 use lib.ListN.{replicate}
 use Rattle.records.specs.Operation.{Operation, createFile, makeDirectory, rename, overwrite, setLength, Record, operands}
 use Rattle.records.specs.Fields.{member}
-use Rattle.log.specs.Programs.{joined}
-use Rattle.log.specs.Slot.{waiting, lost, slotOf, Log, logOf}
-use Rattle.log.specs.Order.{shares, directlyPrecedes, some?, closure, needed}
-use Rattle.log.specs.Predecessors.{predecessors}
+use Rattle.log.specs.Programs.{unionOf}
+use Rattle.log.specs.Slot.{waiting, lost, Log}
+use Rattle.log.specs.Order.{shares, directlyPrecedes, any, closure, needed, predecessors}
 use Rattle.log.specs.Change.{waitingOf, dependentsOf, discard}
 
 abbrev pub sequences : List Record → List ℕ
@@ -66,11 +65,15 @@ renames =
 -- a lost operation of program 1, then two waiting ones; programs 0 and 2 depend on the first, 2 and 3 on the second
 abbrev pub waitingLog : Log
 waitingLog =
-    logOf 4 2
-    (slotOf lost 0 (record { sequence = 1; program = 1; operation = over 0 4 })
-    ∷ slotOf waiting 5 (record { sequence = 2; program = 0; operation = over 0 4 })
-    ∷ slotOf waiting 12 (record { sequence = 3; program = 2; operation = over 4 4 })
-    ∷ [])
+    record {
+      next = 4;
+      marks = 2;
+      slots =
+          record { state = lost; dependents = 0; loss = record { sequence = 1; program = 1; operation = over 0 4 } }
+          ∷ record { state = waiting; dependents = 5; loss = record { sequence = 2; program = 0; operation = over 0 4 } }
+          ∷ record { state = waiting; dependents = 12; loss = record { sequence = 3; program = 2; operation = over 4 4 } }
+          ∷ [];
+    }
 
 abbrev pub rows : List Row
 rows =
@@ -92,5 +95,5 @@ rows =
     ∷ []
 
 pub rows-hold : map (λ r. answerTo (r .asked)) rows ≡ map (λ r. r .told) rows
-unfolding answerTo numberedFrom orderIn predecessors closure some? directlyPrecedes shares member operands needed waitingOf dependentsOf discard joined
+unfolding answerTo numberedFrom orderIn predecessors closure any directlyPrecedes shares member operands needed waitingOf dependentsOf discard unionOf
 rows-hold = refl

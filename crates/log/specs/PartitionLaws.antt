@@ -8,10 +8,10 @@ use mathlib.Core.List.{List, [], _∷_, _++_, List·Memᴰ, List·Memᴰ·head, 
 use mathlib.Core.Bool.{Bool, true, false, not, _&&_, _||_, cond}
 use Rattle.records.specs.Operation.{Operation, Record}
 use Rattle.records.specs.Fields.{valid, fits}
-use Rattle.volume.specs.Volume.{Volume}
-use Rattle.volume.specs.Form.{wellFormed}
-use Rattle.volume.specs.Apply.{applies, apply}
-use Rattle.volume.specs.ApplyLaws.{apply-good}
+use Rattle.search.specs.Volume.{Volume}
+use Rattle.search.specs.Form.{wellFormed}
+use Rattle.applies.specs.Apply.{applies, apply}
+use Rattle.applies.specs.ApplyLaws.{apply-good}
 use Rattle.log.specs.Order.{directlyPrecedes}
 
 -- elements of some type, each with its record: records themselves, or what a register keeps of them

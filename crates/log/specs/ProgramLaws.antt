@@ -1,4 +1,4 @@
--- What a set of programs holds with and without a program and joined with another, and that it stays in its 4 bytes.
+-- What a set of programs holds with and without a program and unionOf with another, and that it stays in its 4 bytes.
 use Prim.Native.Nat.{ℕ, zero, suc, _+_, _*_, _-_, _/_, _%_, _^_, max, _≤_, _<_}
 use native.Mathlib.Nat.{pow-suc, pow-zero, pow-succ', div-one, div-div-eq-div-mul}
 use native.Mathlib.Omega.{arith}
@@ -7,7 +7,7 @@ use mathlib.Core.Logic.{_⊎_, inl, inr}
 use mathlib.Core.Bool.{Bool, true, false, not, _&&_, _||_, cond}
 use lib.Dec.{eqb, eqb·zero-suc, eqb·suc-zero, eqb·suc-suc}
 use borrow.Author.Tests.{eqb-true, eqb-false}
-use Rattle.log.specs.Programs.{holds, with, without, joined, union}
+use Rattle.log.specs.Programs.{holds, with, without, unionOf, union}
 
 -- program 0 is in a set of odd number
 pub holds-first : (a : ℕ) → holds a 0 ≡ eqb (a % 2) 1
@@ -125,32 +125,32 @@ either-bit x y h k = go (bit x h) (bit y k)
     go (inr e) (inl f) = rw (e, f)
     go (inr e) (inr f) = rw (e, f)
 
--- two sets of so many programs, joined, are such a set
-pub joined-below : (k a b : ℕ) → joined k a b < 2 ^ k
-unfolding joined
-joined-below zero a b = rw (pow-zero 2) (omega arith)
-joined-below (suc k) a b = let e = joined-below k (a / 2) (b / 2) in rw (pow-suc 2 k) (omega arith)
+-- two sets of so many programs, unionOf, are such a set
+pub unionOf-below : (k a b : ℕ) → unionOf k a b < 2 ^ k
+unfolding unionOf
+unionOf-below zero a b = rw (pow-zero 2) (omega arith)
+unionOf-below (suc k) a b = let e = unionOf-below k (a / 2) (b / 2) in rw (pow-suc 2 k) (omega arith)
 
--- of so many programs, the joined sets hold those that one of them holds
-pub holds-joined : (k a b p : ℕ) → p < k → holds (joined k a b) p ≡ (holds a p || holds b p)
-unfolding joined
-holds-joined zero a b p h = absurd (omega arith)
-holds-joined (suc k) a b zero h =
+-- of so many programs, the unionOf sets hold those that one of them holds
+pub holds-unionOf : (k a b p : ℕ) → p < k → holds (unionOf k a b) p ≡ (holds a p || holds b p)
+unfolding unionOf
+holds-unionOf zero a b p h = absurd (omega arith)
+holds-unionOf (suc k) a b zero h =
     let m = max (a % 2) (b % 2) in
-    let e : (m + 2 * joined k (a / 2) (b / 2)) % 2 ≡ m = omega arith in
-    holds-first (joined (suc k) a b) ∙ rw (e, holds-first a, holds-first b) (either-bit (a % 2) (b % 2) (omega arith) (omega arith))
-holds-joined (suc k) a b (suc p) h =
+    let e : (m + 2 * unionOf k (a / 2) (b / 2)) % 2 ≡ m = omega arith in
+    holds-first (unionOf (suc k) a b) ∙ rw (e, holds-first a, holds-first b) (either-bit (a % 2) (b % 2) (omega arith) (omega arith))
+holds-unionOf (suc k) a b (suc p) h =
     let m = max (a % 2) (b % 2) in
-    let e : (m + 2 * joined k (a / 2) (b / 2)) / 2 ≡ joined k (a / 2) (b / 2) = omega arith in
-    holds-next (joined (suc k) a b) p ∙ rw (e, holds-next a p, holds-next b p) (holds-joined k (a / 2) (b / 2) p (omega arith))
+    let e : (m + 2 * unionOf k (a / 2) (b / 2)) / 2 ≡ unionOf k (a / 2) (b / 2) = omega arith in
+    holds-next (unionOf (suc k) a b) p ∙ rw (e, holds-next a p, holds-next b p) (holds-unionOf k (a / 2) (b / 2) p (omega arith))
 
 -- the union of two sets is a set of 32 programs
 pub union-below : (a b : ℕ) → union a b < 2 ^ 32
-union-below a b = joined-below 32 a b
+union-below a b = unionOf-below 32 a b
 
 -- the union of two sets holds what one of them holds
 pub holds-union : (a b p : ℕ) → p < 32 → holds (union a b) p ≡ (holds a p || holds b p)
-holds-union a b p h = holds-joined 32 a b p h
+holds-union a b p h = holds-unionOf 32 a b p h
 
 -- no program is in the empty set
 pub holds-none : (p : ℕ) → holds 0 p ≡ false

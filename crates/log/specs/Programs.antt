@@ -15,10 +15,10 @@ unfoldable pub without : ℕ → ℕ → ℕ
 without set p = cond (holds set p) (set - 2 ^ p) set
 
 -- the programs of two sets, of so many programs
-unfoldable pub joined : ℕ → ℕ → ℕ → ℕ
-joined zero a b = 0
-joined (suc k) a b = max (a % 2) (b % 2) + 2 * joined k (a / 2) (b / 2)
+unfoldable pub unionOf : ℕ → ℕ → ℕ → ℕ
+unionOf zero a b = 0
+unionOf (suc k) a b = max (a % 2) (b % 2) + 2 * unionOf k (a / 2) (b / 2)
 
 -- the 32 programs of two sets
 abbrev pub union : ℕ → ℕ → ℕ
-union a b = joined 32 a b
+union a b = unionOf 32 a b

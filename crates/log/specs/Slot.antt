@@ -22,8 +22,12 @@ pub record Slot : Type 0 where
   pub dependents : ℕ
   pub loss : Record
 
-abbrev pub slotOf : State → ℕ → Record → Slot
-slotOf s d r = record { state = s; dependents = d; loss = r }
+-- a slot with another state, and with other dependents
+abbrev pub withState : State → Slot → Slot
+withState t s = record { state = t; dependents = s .dependents; loss = s .loss }
+
+abbrev pub withDependents : ℕ → Slot → Slot
+withDependents d s = record { state = s .state; dependents = d; loss = s .loss }
 
 -- "next sequence number (4, from 1), marked programs (4 ..), then .. slots": the used ones, in their order
 pub record Log : Type 0 where
@@ -31,8 +35,15 @@ pub record Log : Type 0 where
   pub marks : ℕ
   pub slots : List Slot
 
-abbrev pub logOf : ℕ → ℕ → List Slot → Log
-logOf n k s = record { next = n; marks = k; slots = s }
+-- a log with another next number, with other marks, and with other slots
+abbrev pub withNext : ℕ → Log → Log
+withNext n l = record { next = n; marks = l .marks; slots = l .slots }
+
+abbrev pub withMarks : ℕ → Log → Log
+withMarks k l = record { next = l .next; marks = k; slots = l .slots }
+
+abbrev pub withSlots : List Slot → Log → Log
+withSlots s l = record { next = l .next; marks = l .marks; slots = s }
 
 abbrev pub isWaiting : Slot → Bool
 isWaiting s = eqb (stateNumber (s .state)) 1
@@ -67,4 +78,4 @@ wellFormed n b m l =
 
 -- Mount "begins an empty log, next number 1 and no marks"
 abbrev pub emptyLog : Log
-emptyLog = logOf 1 0 []
+emptyLog = record { next = 1; marks = 0; slots = [] }

@@ -5,24 +5,32 @@ use mathlib.Core.Bool.{Bool, true, false, _&&_, cond}
 use mathlib.Core.Option.{Option, none, some}
 use lib.ListN.{length, getD, take, drop, replicate}
 use lib.Dec.{eqb}
-use Rattle.records.specs.Numeral.{bytes, numeral}
+use Rattle.buffer.specs.Numeral.{bytes, numeral}
 use Rattle.records.specs.Operation.{Record}
 use Rattle.records.specs.Fields.{encode}
-use Rattle.records.specs.Answer.{decodeAt}
+use Rattle.records.specs.Decode.{decodeRecord}
 use Rattle.entry.specs.Stored.{padded, sameBytes}
-use Rattle.log.specs.Slot.{State, waiting, lost, stateNumber, Slot, slotOf, Log, logOf, wellFormed}
+use Rattle.log.specs.Slot.{State, waiting, lost, stateNumber, Slot, Log, wellFormed}
+
+-- "next sequence number (4, from 1), marked programs (4, bit p for program p)"
+abbrev pub headBytes : ℕ
+headBytes = 8
 
 -- "m slots of 1,048 bytes"
 abbrev pub slotBytes : ℕ
 slotBytes = 1048
 
+-- "state (1: 0 free, 1 waiting, 2 lost), 3 zero bytes, dependents (4"
+abbrev pub lossAt : ℕ
+lossAt = 8
+
 abbrev pub logBytes : ℕ → ℕ
-logBytes m = 8 + m * slotBytes
+logBytes m = headBytes + m * slotBytes
 
 -- "state (1 ..), 3 zero bytes, dependents (4 ..), a loss record, zeros"
 unfoldable pub encodeSlot : Slot → List ℕ
 encodeSlot s =
-    bytes 1 (stateNumber (s .state)) ++ (replicate 3 0 ++ (bytes 4 (s .dependents) ++ padded (slotBytes - 8) (encode (s .loss))))
+    bytes 1 (stateNumber (s .state)) ++ (replicate 3 0 ++ (bytes 4 (s .dependents) ++ padded (slotBytes - lossAt) (encode (s .loss))))
 
 unfoldable pub encodeSlots : List Slot → List ℕ
 encodeSlots [] = []
@@ -36,12 +44,12 @@ encodeLog m l = bytes 4 (l .next) ++ (bytes 4 (l .marks) ++ padded (m * slotByte
 abbrev pub slotFrom : ℕ → ℕ → Option Record → Option Slot
 slotFrom zero d r = none
 slotFrom (suc zero) d none = none
-slotFrom (suc zero) d (some r) = some (slotOf waiting d r)
+slotFrom (suc zero) d (some r) = some (record { state = waiting; dependents = d; loss = r })
 slotFrom (suc (suc k)) d none = none
-slotFrom (suc (suc k)) d (some r) = some (slotOf lost d r)
+slotFrom (suc (suc k)) d (some r) = some (record { state = lost; dependents = d; loss = r })
 
 unfoldable pub readSlot : List ℕ → Option Slot
-readSlot s = slotFrom (getD s 0 0) (numeral (take 4 (drop 4 s))) (decodeAt s 8)
+readSlot s = slotFrom (getD s 0 0) (numeral (take 4 (drop 4 s))) (decodeRecord (drop lossAt s))
 
 -- "Used slots come first": those up to the first that is none
 abbrev pub onSlot : Option Slot → List Slot → List Slot
@@ -53,7 +61,7 @@ readSlots zero s = []
 readSlots (suc m) s = onSlot (readSlot (take slotBytes s)) (readSlots m (drop slotBytes s))
 
 unfoldable pub readLog : ℕ → List ℕ → Log
-readLog m s = logOf (numeral (take 4 s)) (numeral (take 4 (drop 4 s))) (readSlots m (drop 8 s))
+readLog m s = record { next = numeral (take 4 s); marks = numeral (take 4 (drop 4 s)); slots = readSlots m (drop headBytes s) }
 
 -- bytes are of the right form exactly if they are those of a well-formed log, which is then the one that their fields tell of
 unfoldable pub decodeLog : ℕ → ℕ → ℕ → List ℕ → Option Log

@@ -7,15 +7,16 @@ use mathlib.Core.Bool.{Bool, true, false, _&&_, cond, and-eq-true-iff}
 use mathlib.Core.Option.{none, some}
 use lib.ListN.{length, getD, take, drop, replicate, length-append, length-replicate}
 use lib.Seq.{take-at, drop-at, getD-take}
-use Rattle.records.specs.Numeral.{bytes, numeral}
-use Rattle.records.specs.NumeralLaws.{length-bytes, numeral-bytes}
+use Rattle.buffer.specs.Numeral.{bytes, numeral}
+use Rattle.buffer.specs.NumeralLaws.{length-bytes, numeral-bytes}
 use Rattle.records.specs.Operation.{Record}
 use Rattle.records.specs.Fields.{encode, valid}
-use Rattle.records.specs.Answer.{decodeAt}
-use Rattle.records.specs.ExactLaws.{encode-length, decode-encode as record-read}
+use Rattle.records.specs.Decode.{decodeRecord}
+use Rattle.records.specs.RecordLaws.{encode-length}
+use Rattle.records.specs.DecodeLaws.{decode-encoded}
 use Rattle.entry.specs.Stored.{padded, sameBytes}
 use Rattle.entry.specs.EntryLaws.{same-bytes, bytes-same}
-use Rattle.log.specs.Slot.{State, waiting, lost, stateNumber, Slot, slotOf, Log, logOf, goodSlots, wellFormed}
+use Rattle.log.specs.Slot.{State, waiting, lost, stateNumber, Slot, Log, goodSlots, wellFormed}
 use Rattle.log.specs.Stored.{slotBytes, logBytes, encodeSlot, encodeSlots, encodeLog, slotFrom, readSlot, readSlots, readLog, decodeLog}
 use Rattle.log.specs.SlotLaws.{slots-inv, formed-inv}
 
@@ -58,9 +59,9 @@ after-eight : (v w : ℕ) (t : List ℕ) → drop 8 (bytes 4 v ++ (bytes 4 w ++ 
 unfolding bytes
 after-eight v w t = refl
 
-slot-record : (s : Slot) → valid (s .loss) ≡ true → decodeAt (encodeSlot s) 8 ≡ some (s .loss)
+slot-record : (s : Slot) → valid (s .loss) ≡ true → decodeRecord (drop 8 (encodeSlot s)) ≡ some (s .loss)
 unfolding encodeSlot bytes
-slot-record s h = record-read (encodeSlot s) 8 (s .loss) (replicate (1040 - length (encode (s .loss))) 0) h refl
+slot-record s h = decode-encoded (s .loss) (replicate (1040 - length (encode (s .loss))) 0) h
 
 slot-dependents : (s : Slot) → s .dependents < 2 ^ 32 → numeral (take 4 (drop 4 (encodeSlot s))) ≡ s .dependents
 unfolding encodeSlot bytes
@@ -70,7 +71,7 @@ slot-state : (s : Slot) → getD (encodeSlot s) 0 0 ≡ stateNumber (s .state) %
 unfolding encodeSlot bytes
 slot-state s = refl
 
-state-back : (t : State) (d : ℕ) (r : Record) → slotFrom (stateNumber t % 256) d (some r) ≡ some (slotOf t d r)
+state-back : (t : State) (d : ℕ) (r : Record) → slotFrom (stateNumber t % 256) d (some r) ≡ some (record { state = t; dependents = d; loss = r })
 state-back waiting d r = refl
 state-back lost d r = refl
 
@@ -125,7 +126,7 @@ read-log n b m l h =
     let d₈ : drop 8 (bytes 4 (l .next) ++ (bytes 4 (l .marks) ++ p)) ≡ p = after-eight (l .next) (l .marks) p in
     let e₃ : readSlots m (drop 8 (bytes 4 (l .next) ++ (bytes 4 (l .marks) ++ p))) ≡ l .slots =
     rw d₈ (read-slots n b m (m * slotBytes - length z) (l .slots) (f .good) (omega arith)) in
-    λ i. logOf (e₁ i) (e₂ i) (e₃ i)
+    λ i. record { next = e₁ i; marks = e₂ i; slots = e₃ i }
 
 -- bytes taken for a log are those of that log, which is well formed
 pub encode-decode : (n b m : ℕ) (s : List ℕ) (l : Log) → decodeLog n b m s ≡ some l → (wellFormed n b m l ≡ true) × (encodeLog m l ≡ s)

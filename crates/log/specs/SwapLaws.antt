@@ -4,23 +4,25 @@
 use Prim.Native.Nat.{ℕ, _+_, _-_, _≤_, _<_}
 use native.Mathlib.Omega.{arith}
 use mathlib.Core.Path.{_≡_, refl, sym, ap, _∙_}
-use mathlib.Core.Bool.{Bool, true, false, _&&_, _||_, and-eq-true-iff, and-comm, false≢true}
+use mathlib.Core.Bool.{Bool, true, false, not, _&&_, _||_, and-eq-true-iff, and-comm, false≢true}
+use mathlib.Core.Option.{Option, none, some}
 use mathlib.Core.List.{List, [], _∷_, _++_, append-assoc}
 use lib.ListN.{length, set, take, drop, length-append, length-take, length-drop, take-append-drop}
-use lib.Seq.{set-set, take-at, drop-at}
+use lib.Seq.{set-set}
 use lib.Dec.{leb, ltb, eqb}
-use borrow.Author.Tests.{leb-true, ltb-false, eqb-true}
+use borrow.Author.Tests.{leb-true, ltb-false, eqb-true, not-true, not-false}
 use Rattle.records.specs.Operation.{Operation, createFile, makeDirectory, remove, rename, overwrite, append, setLength, forder, Record, operands}
 use Rattle.records.specs.Fields.{member, valid, fits}
 use Rattle.entry.specs.Entry.{Entry, free, file, directory, isUsed, isFile, contentsOf, refilled}
-use Rattle.volume.specs.Volume.{Volume, entryAt}
-use Rattle.volume.specs.Form.{wellFormed}
-use Rattle.entry.specs.Write.{written}
-use Rattle.volume.specs.Apply.{applies, apply}
-use Rattle.volume.specs.SearchLaws.{entry-set-same, used-below}
-use Rattle.volume.specs.ApplyLaws.{written-length, apply-good, apply-length}
-use Rattle.volume.specs.LocalLaws.{Agree, same-volume, member-first, member-next, applies-local, apply-local, apply-elsewhere}
-use Rattle.log.specs.Order.{shares, touches, overlap, ofOverwrite, directlyPrecedes}
+use Rattle.search.specs.Volume.{Volume, entryAt}
+use Rattle.search.specs.Form.{wellFormed}
+use Rattle.buffer.specs.Patch.{patch}
+use Rattle.entry.specs.WriteLaws.{length-patch, patch-between}
+use Rattle.applies.specs.Apply.{applies, apply}
+use Rattle.search.specs.SearchLaws.{entry-set-same, used-below}
+use Rattle.applies.specs.ApplyLaws.{apply-good, apply-length}
+use Rattle.applies.specs.LocalLaws.{Agree, same-volume, member-first, member-next, applies-local, apply-local, apply-elsewhere}
+use Rattle.log.specs.Order.{shares, touches, overlap, Stretch, overwriteOf, separate, directlyPrecedes}
 use Rattle.log.specs.OrderLaws.{or-left, or-right}
 
 -- A common member of two lists is shared.
@@ -64,17 +66,30 @@ pub data Apart (a b : Operation) : Type 0 where
   disjoint : shares (operands a) (operands b) ≡ false → Apart a b
   stretches : (o f g : ℕ) (c d : List ℕ) → a ≡ overwrite o f c → b ≡ overwrite o g d → overlap f c g d ≡ false → Apart a b
 
--- what is asked of a stretch fails only for an overwrite
-of-overwrite : (a : Operation) (k : ℕ → List ℕ → Bool) → ofOverwrite a k ≡ false
-    → (o : ℕ) × ((f : ℕ) × ((c : List ℕ) × ((a ≡ overwrite o f c) × (k f c ≡ false))))
-of-overwrite (createFile o p n) k e = absurd (false≢true (sym e))
-of-overwrite (makeDirectory o p n) k e = absurd (false≢true (sym e))
-of-overwrite (remove o p n) k e = absurd (false≢true (sym e))
-of-overwrite (rename o p q d n m) k e = absurd (false≢true (sym e))
-of-overwrite (overwrite o f c) k e = (o, (f, (c, (refl, e))))
-of-overwrite (append o f c) k e = absurd (false≢true (sym e))
-of-overwrite (setLength o f) k e = absurd (false≢true (sym e))
-of-overwrite (forder l) k e = absurd (false≢true (sym e))
+-- an operation that has a stretch is an overwrite
+record Overwrites (a : Operation) (s : Stretch) : Type 0 where
+  object : ℕ
+  is : a ≡ overwrite object (s .offset) (s .content)
+
+no-stretch : {C : Type 0} {s : Stretch} → none ≡ some s → C
+no-stretch e = let z : _≡_ {A = ℕ} 0 1 = cc in absurd (omega arith)
+
+overwrites : (a : Operation) (s : Stretch) → overwriteOf a ≡ some s → Overwrites a s
+overwrites (createFile o p n) s e = no-stretch e
+overwrites (makeDirectory o p n) s e = no-stretch e
+overwrites (remove o p n) s e = no-stretch e
+overwrites (rename o p q d n m) s e = no-stretch e
+overwrites (overwrite o f c) s e = let z : _≡_ {A = Stretch} (record { offset = f; content = c }) s = cc in record { object = o; is = ap (λ (t : Stretch). overwrite o (t .offset) (t .content)) z }
+overwrites (append o f c) s e = no-stretch e
+overwrites (setLength o f) s e = no-stretch e
+overwrites (forder l) s e = no-stretch e
+
+-- two stretches without a common byte
+separated : (s t : Option Stretch) → separate s t ≡ true
+    → (u : Stretch) × (w : Stretch) × (s ≡ some u) × (t ≡ some w) × (overlap (u .offset) (u .content) (w .offset) (w .content) ≡ false)
+separated none t e = absurd (false≢true e)
+separated (some s) none e = absurd (false≢true e)
+separated (some s) (some t) e = (s, t, refl, refl, not-true _ e)
 
 one-shared : (o p f g : ℕ) (c d : List ℕ) → shares (operands (overwrite o f c)) (operands (overwrite p g d)) ≡ true → o ≡ p
 unfolding shares operands member
@@ -89,22 +104,19 @@ pub apart : (a b : Operation) → directlyPrecedes a b ≡ false → Apart a b
 unfolding directlyPrecedes
 apart a b e = go (touches a b) refl e
   where
-    go : (t : Bool) → touches a b ≡ t → t && ofOverwrite a (λ f c. ofOverwrite b (λ g d. overlap f c g d)) ≡ false → Apart a b
+    go : (t : Bool) → touches a b ≡ t → t && not (separate (overwriteOf a) (overwriteOf b)) ≡ false → Apart a b
     go false s e = disjoint s
     go true s e =
-        let x = of-overwrite a (λ f c. ofOverwrite b (λ g d. overlap f c g d)) e in
-        let o = x .0 in
-        let f = x .1 .0 in
-        let c = x .1 .1 .0 in
-        let ea : a ≡ overwrite o f c = x .1 .1 .1 .0 in
-        let y = of-overwrite b (λ g d. overlap f c g d) (x .1 .1 .1 .1) in
-        let p = y .0 in
-        let g = y .1 .0 in
-        let d = y .1 .1 .0 in
-        let eb : b ≡ overwrite p g d = y .1 .1 .1 .0 in
-        let s' : touches (overwrite o f c) (overwrite p g d) ≡ true = (λ j. touches (sym ea j) (sym eb j)) ∙ s in
-        let q : o ≡ p = one-shared o p f g c d s' in
-        stretches o f g c d ea (eb ∙ ap (λ (i : ℕ). overwrite i g d) (sym q)) (y .1 .1 .1 .1)
+        let x = separated (overwriteOf a) (overwriteOf b) (not-false _ e) in
+        let f = x .0 .offset in
+        let c = x .0 .content in
+        let g = x .1 .offset in
+        let d = x .1 .content in
+        let oa = overwrites a (x .0) (x .2) in
+        let ob = overwrites b (x .1) (x .3) in
+        let s' : touches (overwrite (oa .object) f c) (overwrite (ob .object) g d) ≡ true = (λ j. touches (sym (oa .is) j) (sym (ob .is) j)) ∙ s in
+        let q : oa .object ≡ ob .object = one-shared (oa .object) (ob .object) f g c d s' in
+        stretches (oa .object) f g c d (oa .is) (ob .is ∙ ap (λ (i : ℕ). overwrite i g d) (sym q)) (x .4)
 
 pub apart-sym : {a b : Operation} → Apart a b → Apart b a
 apart-sym {a} {b} (disjoint e) = disjoint (shares-sym (operands a) (operands b) e)
@@ -115,33 +127,25 @@ pub apart-unordered : {a b : Operation} → Apart a b → directlyPrecedes a b �
 unfolding directlyPrecedes
 apart-unordered (disjoint e) = rw e
 apart-unordered (stretches o f g c d ea eb e) =
-    rw (ea, eb) (ap (λ (t : Bool). touches (overwrite o f c) (overwrite o g d) && t) e ∙ and-comm (touches (overwrite o f c) (overwrite o g d)) false)
+    rw (ea, eb) (ap (λ (t : Bool). touches (overwrite o f c) (overwrite o g d) && not (not t)) e ∙ and-comm (touches (overwrite o f c) (overwrite o g d)) false)
 
 -- If the first of two operations does not directly precede the second, neither does the second precede the first.
 pub unordered-sym : (a b : Operation) → directlyPrecedes a b ≡ false → directlyPrecedes b a ≡ false
 unordered-sym a b e = apart-unordered (apart-sym (apart a b e))
 
--- bytes written over a part of the same length
-written-at : (p x t c : List ℕ) (f : ℕ) → length p ≡ f → length x ≡ length c → written (p ++ (x ++ t)) f c ≡ p ++ (c ++ t)
-written-at p x t c f h k =
-    let a : take f (p ++ (x ++ t)) ≡ p = take-at p (x ++ t) f h in
-    let l : length (p ++ x) ≡ f + length c = simp length-append (omega arith) in
-    let b : drop (f + length c) (p ++ (x ++ t)) ≡ t = ap (drop (f + length c)) (sym (append-assoc p x t)) ∙ drop-at (p ++ x) t (f + length c) l in
-    λ j. a j ++ (c ++ b j)
-
 -- two writes over parts of one list
 writes : (p x y z t c d : List ℕ) (f g : ℕ) → length p ≡ f → length x ≡ length c → f + length c + length y ≡ g → length z ≡ length d
-    → written (written (p ++ (x ++ (y ++ (z ++ t)))) f c) g d ≡ written (written (p ++ (x ++ (y ++ (z ++ t)))) g d) f c
+    → patch (patch (p ++ (x ++ (y ++ (z ++ t)))) f c) g d ≡ patch (patch (p ++ (x ++ (y ++ (z ++ t)))) g d) f c
 writes p x y z t c d f g h k l m =
     let regroup : (s a : List ℕ) → (p ++ (s ++ y)) ++ (a ++ t) ≡ p ++ (s ++ (y ++ (a ++ t))) = λ s a. simp append-assoc in
-    let second : (s : List ℕ) → length s ≡ length c → written (p ++ (s ++ (y ++ (z ++ t)))) g d ≡ p ++ (s ++ (y ++ (d ++ t))) =
-    λ s e. ap (λ (r : List ℕ). written r g d) (sym (regroup s z)) ∙ written-at (p ++ (s ++ y)) z t d g (simp length-append (omega arith)) m ∙ regroup s d in
-    ap (λ (r : List ℕ). written r g d) (written-at p x (y ++ (z ++ t)) c f h k) ∙ second c refl
-    ∙ sym (ap (λ (r : List ℕ). written r f c) (second x k) ∙ written-at p x (y ++ (d ++ t)) c f h k)
+    let second : (s : List ℕ) → length s ≡ length c → patch (p ++ (s ++ (y ++ (z ++ t)))) g d ≡ p ++ (s ++ (y ++ (d ++ t))) =
+    λ s e. ap (λ (r : List ℕ). patch r g d) (sym (regroup s z)) ∙ patch-between (p ++ (s ++ y)) z t g d (simp length-append (omega arith)) m ∙ regroup s d in
+    ap (λ (r : List ℕ). patch r g d) (patch-between p x (y ++ (z ++ t)) f c h k) ∙ second c refl
+    ∙ sym (ap (λ (r : List ℕ). patch r f c) (second x k) ∙ patch-between p x (y ++ (d ++ t)) f c h k)
 
 -- Two writes inside some contents, one behind the other, commute.
 written-behind : (k : List ℕ) (f g : ℕ) (c d : List ℕ) → f + length c ≤ g → g + length d ≤ length k
-    → written (written k f c) g d ≡ written (written k g d) f c
+    → patch (patch k f c) g d ≡ patch (patch k g d) f c
 written-behind k f g c d h l =
     let p = take f k in
     let r = drop f k in
@@ -160,16 +164,16 @@ written-behind k f g c d h l =
 
 -- Two writes inside some contents without a common byte commute.
 pub written-swap : (k : List ℕ) (f g : ℕ) (c d : List ℕ) → overlap f c g d ≡ false → f + length c ≤ length k → g + length d ≤ length k
-    → written (written k f c) g d ≡ written (written k g d) f c
+    → patch (patch k f c) g d ≡ patch (patch k g d) f c
 written-swap k f g c d e h l = go (ltb f (g + length d)) refl e
   where
-    go : (b : Bool) → ltb f (g + length d) ≡ b → b && ltb g (f + length c) ≡ false → written (written k f c) g d ≡ written (written k g d) f c
+    go : (b : Bool) → ltb f (g + length d) ≡ b → b && ltb g (f + length c) ≡ false → patch (patch k f c) g d ≡ patch (patch k g d) f c
     go true t e = written-behind k f g c d (ltb-false g (f + length c) e) l
     go false t e = sym (written-behind k g f d c (ltb-false f (g + length d) t) h)
 
 -- a file with bytes written over its contents
 abbrev overwritten : Entry → ℕ → List ℕ → Entry
-overwritten e f c = refilled e (written (contentsOf e) f c)
+overwritten e f c = refilled e (patch (contentsOf e) f c)
 
 -- whether a stretch lies inside a file
 abbrev covers : Entry → ℕ → List ℕ → Bool
@@ -179,7 +183,7 @@ covers e f c = isFile e && leb (f + length c) (length (contentsOf e))
 covers-kept : (e : Entry) (f g : ℕ) (c d : List ℕ) → covers e f c ≡ true → covers (overwritten e f c) g d ≡ covers e g d
 covers-kept free f g c d t = refl
 covers-kept (directory n p) f g c d t = refl
-covers-kept (file n p k) f g c d t = ap (leb (g + length d)) (written-length k f c (leb-true (f + length c) (length k) t))
+covers-kept (file n p k) f g c d t = ap (leb (g + length d)) (length-patch k f c (leb-true (f + length c) (length k) t))
 
 overwritten-swap : (e : Entry) (f g : ℕ) (c d : List ℕ) → overlap f c g d ≡ false → covers e f c ≡ true → covers e g d ≡ true
     → overwritten (overwritten e f c) g d ≡ overwritten (overwritten e g d) f c

@@ -4,6 +4,7 @@ use mathlib.Core.List.{List, [], _∷_}
 use mathlib.Core.Bool.{Bool, true, false, not, _&&_, _||_, cond}
 use lib.ListN.{length, getD}
 use lib.Dec.{leb, eqb}
+use Rattle.returned.specs.Returned
 use Rattle.names.specs.declared.NameText.{NameText}
 use Rattle.names.specs.declared.NameText.the-variants.{Fine, Bad, Long}
 
@@ -21,23 +22,27 @@ isDots s =
     (eqb (length s) 1 && eqb (getD s 0 0) 46)
     || (eqb (length s) 2 && (eqb (getD s 0 0) 46 && eqb (getD s 1 0) 46))
 
--- the text is a name's, its length apart from being over 60
+-- "A name has 1..60 bytes"
+abbrev pub longestName : ℕ
+longestName = 60
+
+-- the text is a name's, whatever its length over 60
 unfoldable pub goodText : List ℕ → Bool
 goodText s = leb 1 (length s) && (not (isDots s) && allPermitted s)
 
 -- "A name has 1..60 bytes, none 0 or 47 (slash), and is neither "." nor "..""
 unfoldable pub validName : List ℕ → Bool
-validName s = goodText s && leb (length s) 60
+validName s = goodText s && leb (length s) longestName
 
 -- "5 Bad name: name or path text, other than length over 60"; "6 Long name: over 60 bytes"; the lower number wins
 unfoldable pub nameTextOf : List ℕ → NameText
-nameTextOf s = cond (goodText s) (cond (leb (length s) 60) Fine Long) Bad
+nameTextOf s = cond (goodText s) (cond (leb (length s) longestName) Fine Long) Bad
 
--- document 01's number for each answer, 0 where there is no refusal
+-- the returned number of each answer
 abbrev pub nameNumber : NameText → ℕ
-nameNumber Fine = 0
-nameNumber Bad = 5
-nameNumber Long = 6
+nameNumber Fine = Returned.accepted
+nameNumber Bad = Returned.badName
+nameNumber Long = Returned.longName
 
 -- two texts are the same name: byte for byte, to the end of both
 unfoldable pub sameName : List ℕ → List ℕ → Bool

@@ -1,5 +1,5 @@
--- Laws of names (document 01, "Names and paths"): the test of a name says exactly what the document's sentence says, and two texts
--- are the same name exactly where they are equal.
+-- Laws of names (document 01, "Names and paths"): the test of a name says exactly what the document's sentence says, and to be the
+-- same name is an equivalence of texts.
 -- Assumes nothing.
 use Prim.Native.Nat.{ℕ, zero, suc, _+_, _≤_, _<_, suc-le-suc}
 use mathlib.Core.Path.{_≡_, refl, sym, ap, ap₂, _∙_}
@@ -12,6 +12,7 @@ use lib.ListN.{length, getD, drop, replicate}
 use lib.Seq.{drop-cons}
 use lib.Dec.{leb, eqb}
 use borrow.Author.Tests.{le-leb, lt-leb, leb-true, eq-eqb, ne-eqb, eqb-true, eqb-false, not-true}
+use Rattle.names.specs.declared.NameText.{NameText}
 use Rattle.names.specs.declared.NameText.the-variants.{Fine, Bad, Long}
 use Rattle.names.specs.Name.{permittedByte, allPermitted, isDots, goodText, validName, nameTextOf, sameName}
 
@@ -153,22 +154,40 @@ same-equal (a ∷ s) (b ∷ t) e =
     ap₂ (λ (v : ℕ) (r : List ℕ). v ∷ r) (eqb-true a b (h .0)) (same-equal s t (h .1))
 
 -- A text is the same name as itself.
-pub equal-same : (s : List ℕ) → sameName s s ≡ true
+pub same-refl : (s : List ℕ) → sameName s s ≡ true
 unfolding sameName
-equal-same [] = refl
-equal-same (a ∷ s) = simp (eq-eqb a a refl, equal-same s)
+same-refl [] = refl
+same-refl (a ∷ s) = and-eq-true-iff (eqb a a) (sameName s s) .1 (eq-eqb a a refl, same-refl s)
 
--- Two texts that are not the same name differ.
-pub other-differs : (s t : List ℕ) → sameName s t ≡ false → s ≡ t → ⊥
-other-differs s t e q = false≢true (sym e ∙ ap (λ (r : List ℕ). sameName s r) (sym q) ∙ equal-same s)
+-- Two texts are the same name in either order.
+pub same-sym : (s t : List ℕ) → sameName s t ≡ true → sameName t s ≡ true
+unfolding sameName
+same-sym [] [] e = refl
+same-sym [] (b ∷ t) e = absurd (false≢true e)
+same-sym (a ∷ s) [] e = absurd (false≢true e)
+same-sym (a ∷ s) (b ∷ t) e =
+    let h = and-eq-true-iff (eqb a b) (sameName s t) .0 e in
+    and-eq-true-iff (eqb b a) (sameName t s) .1 (eq-eqb b a (sym (eqb-true a b (h .0))), same-sym s t (h .1))
 
--- Two texts that differ are not the same name.
-pub differs-other : (s t : List ℕ) → (s ≡ t → ⊥) → sameName s t ≡ false
-differs-other s t h = go (sameName s t) refl
-  where
-    go : (b : Bool) → sameName s t ≡ b → sameName s t ≡ false
-    go true e = absurd (h (same-equal s t e))
-    go false e = e
+-- Two texts that are the same name as a third are the same name.
+pub same-trans : (s t r : List ℕ) → sameName s t ≡ true → sameName t r ≡ true → sameName s r ≡ true
+unfolding sameName
+same-trans [] [] r e f = f
+same-trans [] (b ∷ t) r e f = absurd (false≢true e)
+same-trans (a ∷ s) [] r e f = absurd (false≢true e)
+same-trans (a ∷ s) (b ∷ t) [] e f = absurd (false≢true f)
+same-trans (a ∷ s) (b ∷ t) (c ∷ r) e f =
+    let h = and-eq-true-iff (eqb a b) (sameName s t) .0 e in
+    let k = and-eq-true-iff (eqb b c) (sameName t r) .0 f in
+    and-eq-true-iff (eqb a c) (sameName s r) .1 (eq-eqb a c (eqb-true a b (h .0) ∙ eqb-true b c (k .0)), same-trans s t r (h .1) (k .1))
+
+-- Two texts of different lengths are not the same name.
+pub lengths-differ : (s t : List ℕ) → (length s ≡ length t → ⊥) → sameName s t ≡ false
+unfolding sameName
+lengths-differ [] [] h = absurd (h refl)
+lengths-differ [] (b ∷ t) h = refl
+lengths-differ (a ∷ s) [] h = refl
+lengths-differ (a ∷ s) (b ∷ t) h = ap (λ (x : Bool). eqb a b && x) (lengths-differ s t (λ e. h (ap suc e))) ∙ and-false (eqb a b)
 
 -- Two texts are the same name from a place on where their bytes there are equal, and they are from the next place on.
 pub same-step : (s t : List ℕ) (i : ℕ) → i < length s → i < length t
@@ -189,3 +208,23 @@ pub name-examples :
     × (nameTextOf (replicate 60 97 ++ (47 ∷ [])) ≡ Bad)
 unfolding nameTextOf goodText isDots allPermitted permittedByte
 name-examples = (refl, refl, refl, refl, refl, refl, refl, refl)
+
+-- a text that is not fine is no valid name
+pub not-fine : (t : List ℕ) (x : NameText) → nameTextOf t ≡ x → (x ≡ Fine → ⊥) → validName t ≡ false
+not-fine t x e n = go (validName t) refl
+  where
+    go : (b : Bool) → validName t ≡ b → validName t ≡ false
+    go true v = absurd (n (sym e ∙ valid-fine t v))
+    go false v = v
+
+bad-not-fine : Bad ≡ Fine → ⊥
+bad-not-fine e = let z : _≡_ {A = ℕ} 0 1 = cc in omega arith
+
+long-not-fine : Long ≡ Fine → ⊥
+long-not-fine e = let z : _≡_ {A = ℕ} 0 1 = cc in omega arith
+
+pub bad-invalid : (t : List ℕ) → nameTextOf t ≡ Bad → validName t ≡ false
+bad-invalid t e = not-fine t Bad e bad-not-fine
+
+pub long-invalid : (t : List ℕ) → nameTextOf t ≡ Long → validName t ≡ false
+long-invalid t e = not-fine t Long e long-not-fine

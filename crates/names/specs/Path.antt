@@ -4,6 +4,7 @@ use mathlib.Core.List.{List, [], _∷_, _++_}
 use mathlib.Core.Bool.{_&&_, cond}
 use lib.ListN.{length, getD, drop}
 use lib.Dec.{leb, eqb}
+use Rattle.returned.specs.Returned
 use Rattle.names.specs.declared.PathText.{PathText}
 use Rattle.names.specs.declared.PathText.the-variants.{Bad, Root, Components}
 
@@ -14,11 +15,11 @@ pathTextOf p =
     (cond (eqb (length p) 1) Root Components)
     Bad
 
--- document 01's number for each answer, 0 where there is no refusal yet
+-- the returned number of each answer, before any component is looked at
 abbrev pub pathNumber : PathText → ℕ
-pathNumber Bad = 5
-pathNumber Root = 0
-pathNumber Components = 0
+pathNumber Bad = Returned.badName
+pathNumber Root = Returned.accepted
+pathNumber Components = Returned.accepted
 
 -- the bytes before the first slash, all of them where there is none
 unfoldable pub upToSlash : List ℕ → List ℕ

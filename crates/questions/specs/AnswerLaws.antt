@@ -9,10 +9,10 @@ use mathlib.Core.Path.{_≡_, refl, ap, _∙_}
 use lib.ListN.{length, take, drop}
 use lib.Dec.{ltb}
 use borrow.Author.Tests.{lt-ltb, le-ltb, ltb-true}
-use Rattle.records.specs.Patch.{patch, Put}
+use Rattle.buffer.specs.Patch.{Put}
 use Rattle.entry.specs.Entry.{Entry, free, file, directory, kindNumber, contentsOf, usage}
-use Rattle.volume.specs.Volume.{Volume, entryAt}
-use Rattle.questions.specs.Listing.{listing, filled}
+use Rattle.search.specs.Volume.{Volume, entryAt}
+use Rattle.questions.specs.Listing.{listing}
 use Rattle.questions.specs.declared.object.Object.{Object}
 use Rattle.questions.specs.declared.object.Object.the-variants.{File, Directory, BadNumber, Free}
 use Rattle.questions.specs.declared.object.Stat.the-variants.{Is, BadNumber as StatBadNumber, NoObject as StatNoObject}
@@ -83,10 +83,9 @@ module _ (v : Volume) (o : ℕ) where
   unfolding statAnswer
   stat-used h z = rw (object-in h) (used-stat (entryAt v o) z)
 
--- Some bytes put at the start of a buffer fill it, and the place after them is their count.
-pub put-filled : {s own left : List ℕ} {r : ℕ} → Put s 0 own left r → (r ≡ length s) × (left ≡ filled own s)
-unfolding patch
-put-filled {s} {own} p = (p .ends ∙ zero-add (length s), p .placed ∙ rw (zero-add (length s)))
+-- Some bytes put at the start of a buffer: the place after them is their count.
+pub put-count : {s own left : List ℕ} {r : ℕ} → Put s 0 own left r → r ≡ length s
+put-count {s} p = p .ends ∙ zero-add (length s)
 
 module _ (v : Volume) (o f : ℕ) (own : List ℕ) where
   -- An answer and what is left in the buffer are those of read.
@@ -111,7 +110,7 @@ module _ (v : Volume) (o f : ℕ) (own : List ℕ) where
     unfolding readAnswer readLeaves
     read-bytes h s y p =
         let t = le-ltb (length c) f h in
-        (rw (e, ← q, t, ← y) (ap CopiedBytes (put-filled p .0)), rw (e, ← q, t, ← y) (put-filled p .1))
+        (rw (e, ← q, t, ← y) (ap CopiedBytes (put-count p)), rw (e, ← q, t, ← y) (p .placed))
 
 -- the same of list, in a volume of n entries
 module _ (v : Volume) (n : ℕ) (z : length v ≡ n) (o : ℕ) (own : List ℕ) where
@@ -136,4 +135,4 @@ module _ (v : Volume) (n : ℕ) (z : length v ≡ n) (o : ℕ) (own : List ℕ) 
     unfolding listAnswer listLeaves
     list-bytes h p =
         let t = le-ltb (length own) (length (listing v o n)) h in
-        (rw (e, z, t) (ap ListedBytes (put-filled p .0)), rw (e, z, t) (put-filled p .1))
+        (rw (e, z, t) (ap ListedBytes (put-count p)), rw (e, z, t) (p .placed))

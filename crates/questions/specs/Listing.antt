@@ -1,11 +1,11 @@
--- Document 01, "Calls": what list writes, and how a call fills its buffer.
+-- Document 01, "Calls": what list writes.
 use Prim.Native.Nat.{ℕ, zero, suc}
 use mathlib.Core.List.{List, [], _++_}
 use mathlib.Core.Bool.{cond}
-use lib.ListN.{length, drop}
-use Rattle.records.specs.Numeral.{bytes}
+use lib.ListN.{length}
+use Rattle.buffer.specs.Numeral.{bytes}
 use Rattle.entry.specs.Entry.{Entry, kindNumber, nameOf}
-use Rattle.volume.specs.Volume.{Volume, entryAt, isChild}
+use Rattle.search.specs.Volume.{Volume, entryAt, isChild}
 
 -- "per child number 2, kind 1, name length 1, name; rising numbers"
 abbrev pub listed : ℕ → Entry → List ℕ
@@ -18,7 +18,3 @@ listedAt v d i = cond (isChild v d i) (listed i (entryAt v i)) []
 unfoldable pub listing : Volume → ℕ → ℕ → List ℕ
 listing v d zero = []
 listing v d (suc k) = listing v d k ++ listedAt v d k
-
--- "List and take also fill their buffer from the start and leave the rest."
-abbrev pub filled : List ℕ → List ℕ → List ℕ
-filled own s = s ++ drop (length s) own

@@ -10,11 +10,11 @@ use mathlib.Core.Path.{_≡_, refl}
 use lib.ListN.{length, getD, length-append, length-take}
 use lib.Dec.{eqb}
 use borrow.Author.Tests.{eqb-true, eqb-false}
-use Rattle.records.specs.NumeralLaws.{length-bytes}
+use Rattle.buffer.specs.NumeralLaws.{length-bytes}
 use Rattle.entry.specs.Entry.{Entry, nameOf, isUsed}
 use Rattle.entry.specs.Stored.{readEntry}
 use Rattle.entry.specs.FieldLaws.{used-fields, unused-fields}
-use Rattle.volume.specs.Volume.{Volume}
+use Rattle.search.specs.Volume.{Volume}
 use Rattle.questions.specs.Listing.{listed, listing, listedAt}
 
 -- The name that an entry's bytes tell of is no longer than the byte of its length says.

@@ -2,20 +2,20 @@
 ghost use mathlib.Core.Path.{_≡_};
 ghost use Prim.Native.Nat.{_+_, _≤_, _<_};
 ghost use lib.ListN.{length};
-ghost use Rattle.records.specs.Patch.{Put};
-ghost use Rattle.volume.specs.Stored.{readVolume};
-ghost use Rattle.volume.specs.Lent.{Lent};
+ghost use Rattle.buffer.specs.Patch.{Put};
+ghost use Rattle.search.specs.Stored.{readVolume};
+ghost use Rattle.search.specs.Code.Lent.{Lent};
 ghost use Rattle.questions.specs.Listing.{listing, listedAt};
 ghost use Rattle.questions.specs.Answer.{listAnswer, listLeaves};
 use crate::object::Object;
 use crate::object::object_at;
+use buffer::put::put_bytes;
+use buffer::put::put_one;
+use buffer::put::put_two;
 use entry::field::kind;
 use entry::field::name;
-use records::writer::put_bytes;
-use records::writer::put_one;
-use records::writer::put_two;
-use volume::entries::entry;
-use volume::search::is_child;
+use search::entries::entry;
+use search::search::is_child;
 
 pub enum Listed {
     Bytes(usize),

@@ -1,14 +1,14 @@
 // An object that a call names by its number, and stat.
 ghost use mathlib.Core.Path.{_≡_};
-ghost use Rattle.volume.specs.Stored.{readVolume};
-ghost use Rattle.volume.specs.Lent.{Lent};
+ghost use Rattle.search.specs.Stored.{readVolume};
+ghost use Rattle.search.specs.Code.Lent.{Lent};
 ghost use Rattle.questions.specs.Answer.{objectAnswer, statAnswer};
 use entry::FILE;
 use entry::FREE;
 use entry::field::contents;
 use entry::field::kind;
 use entry::field::usage_of;
-use volume::entries::entry;
+use search::entries::entry;
 
 // What an object's number names.
 pub enum Object {

@@ -1,14 +1,14 @@
 // Read: "Read gives the smaller of the buffer length and what follows the offset; other bytes stay."
 ghost use mathlib.Core.Path.{_≡_};
-ghost use Rattle.volume.specs.Stored.{readVolume};
-ghost use Rattle.volume.specs.Lent.{Lent};
+ghost use Rattle.search.specs.Stored.{readVolume};
+ghost use Rattle.search.specs.Code.Lent.{Lent};
 ghost use Rattle.questions.specs.Answer.{readAnswer, readLeaves};
 use crate::object::Object;
 use crate::object::object_at;
+use buffer::put::put_bytes;
+use buffer::span::stretch_of;
 use entry::field::contents;
-use records::fit::stretch_of;
-use records::writer::put_bytes;
-use volume::entries::entry;
+use search::entries::entry;
 
 pub enum Copied {
     Bytes(usize),

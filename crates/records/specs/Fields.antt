@@ -2,13 +2,15 @@
 -- a record valid.
 use Prim.Native.Nat.{ℕ, _+_, _*_, _/_, _%_}
 use mathlib.Core.List.{List, [], _∷_, _++_}
-use mathlib.Core.Bool.{Bool, true, false, not, _&&_, _||_, cond}
+use mathlib.Core.Bool.{Bool, true, false, not, _&&_, _||_}
 use mathlib.Core.Option.{Option, none, some}
 use lib.ListN.{length}
 use lib.Dec.{leb, ltb, eqb}
 use Rattle.names.specs.Name.{validName}
+use Rattle.buffer.specs.Numeral.{bytes}
+use Rattle.records.specs.declared.kind.Kind.{Kind}
+use Rattle.records.specs.declared.kind.Kind.the-variants.{CreateFile, MakeDirectory, Remove, Rename, Overwrite, Append, SetLength, Forder}
 use Rattle.records.specs.Kind.{codeOf}
-use Rattle.records.specs.Numeral.{bytes}
 use Rattle.records.specs.Operation.{Operation, createFile, makeDirectory, remove, rename, overwrite, append, setLength, forder, Record, kindOf, mapOf, operands}
 
 -- "0 object (2), 1 parent (2), 2 second parent (2), 3 displaced object (2), 4 name .., 5 second name .., 6 offset (4),
@@ -46,6 +48,11 @@ parts (forder l) = parted 0 0 0 0 [] [] 0 [] l
 abbrev pub standsIn : ℕ → ℕ → Bool
 standsIn map weight = eqb (map / weight % 2) 1
 
+-- a number where its bit stands, else 0
+abbrev pub numberIf : Bool → ℕ → ℕ
+numberIf true v = v
+numberIf false v = 0
+
 -- a field's bytes where its bit stands, else none
 abbrev pub field : Bool → List ℕ → List ℕ
 field true s = s
@@ -59,6 +66,12 @@ text n = bytes 1 (length n) ++ n
 unfoldable pub pairs : List ℕ → List ℕ
 pairs [] = []
 pairs (o ∷ l) = bytes 2 o ++ pairs l
+
+-- the objects that a list of 2 bytes each holds
+unfoldable pub objectsOf : List ℕ → List ℕ
+objectsOf [] = []
+objectsOf (a ∷ []) = []
+objectsOf (a ∷ b ∷ s) = (a + 256 * b) ∷ objectsOf s
 
 -- fields 0 to 3
 unfoldable pub objectFields : ℕ → Parts → List ℕ
@@ -88,6 +101,22 @@ unfoldable pub encode : Record → List ℕ
 encode r =
     headBytes (mapOf (r .operation)) (r .sequence) (r .program) (codeOf (kindOf (r .operation)))
     ++ fields (mapOf (r .operation)) (parts (r .operation))
+
+-- the displaced object, if its bit stands
+abbrev pub displacedIf : Bool → ℕ → Option ℕ
+displacedIf true d = some d
+displacedIf false d = none
+
+-- the operation of a kind with its fields taken from the nine
+abbrev pub operationOf : Kind → ℕ → Parts → Operation
+operationOf CreateFile m x = createFile (x .object) (x .parent) (x .name)
+operationOf MakeDirectory m x = makeDirectory (x .object) (x .parent) (x .name)
+operationOf Remove m x = remove (x .object) (x .parent) (x .name)
+operationOf Rename m x = rename (x .object) (x .parent) (x .second) (displacedIf (standsIn m 8) (x .displaced)) (x .name) (x .secondName)
+operationOf Overwrite m x = overwrite (x .object) (x .offset) (x .block)
+operationOf Append m x = append (x .object) (x .offset) (x .block)
+operationOf SetLength m x = setLength (x .object) (x .offset)
+operationOf Forder m x = forder (x .list)
 
 -- a condition on a field, asked only where its bit stands
 abbrev pub ifStands : Bool → Bool → Bool
@@ -154,6 +183,10 @@ valid r = validHead (r .sequence) (r .program) && validParts (mapOf (r .operatio
 unfoldable pub allBelow : ℕ → List ℕ → Bool
 allBelow n [] = true
 allBelow n (o ∷ l) = ltb o n && allBelow n l
+
+-- the data end, and a new length lies, within b blocks
+unfoldable pub withinBlocks : ℕ → ℕ → ℕ → Bool
+withinBlocks b offset len = leb (offset + len) (1024 * b)
 
 unfoldable pub fits : ℕ → ℕ → Record → Bool
 fits n b r =

@@ -1,7 +1,7 @@
 -- Document 01, "Loss record": the codes of the kinds and their maps. The numbers stand here and nowhere else in the
 -- definitions.
 use Prim.Native.Nat.{ℕ}
-use mathlib.Core.Bool.{Bool, true, false, _||_, cond}
+use mathlib.Core.Bool.{Bool, _||_, cond}
 use lib.Dec.{eqb}
 use Rattle.records.specs.declared.kind.Kind.{Kind}
 use Rattle.records.specs.declared.kind.Kind.the-variants.{CreateFile, MakeDirectory, Remove, Rename, Overwrite, Append, SetLength, Forder}

@@ -1,19 +1,17 @@
 -- Lists of objects of 2 bytes each: their count, what stands at a position, and what a loop over them may use.
-use Prim.Native.Nat.{ℕ, zero, suc, _+_, _*_, _-_, _/_, _%_, _≤_, _<_}
-use native.Mathlib.Nat.{add-zero}
+use Prim.Native.Nat.{ℕ, zero, suc, _+_, _*_, _/_, _%_, _≤_, _<_}
 use native.Mathlib.Numerals.{add-one}
 use native.Mathlib.Omega.{arith}
-use mathlib.Core.Path.{_≡_, refl, sym, ap, _∙_}
-use mathlib.Core.Bool.{Bool, true, false, not, _&&_, _||_, cond, and-eq-true-iff}
+use mathlib.Core.Path.{_≡_, refl, sym, _∙_}
+use mathlib.Core.Bool.{Bool, true, false, not, _&&_, and-eq-true-iff}
 use mathlib.Core.List.{List, [], _∷_}
 use lib.ListN.{length, getD, take, drop}
 use lib.Seq.{drop-cons, drop-length}
-use lib.Dec.{leb, eqb}
-use borrow.Author.Tests.{le-leb, lt-leb, eq-eqb, ne-eqb, leb-true}
-use Rattle.records.specs.Numeral.{numeral, bytes, Bytes}
-use Rattle.records.specs.NumeralLaws.{numeral-two, two-bytes}
-use Rattle.records.specs.Fields.{member, different, allUpTo, validList, pairs}
-use Rattle.records.specs.Reader.{objectsOf}
+use lib.Dec.{leb}
+use borrow.Author.Tests.{le-leb, lt-leb, eq-eqb, ne-eqb, leb-true, lt-ltb, le-ltb}
+use Rattle.buffer.specs.Numeral.{numeral, bytes, Bytes}
+use Rattle.buffer.specs.NumeralLaws.{numeral-two, two-bytes}
+use Rattle.records.specs.Fields.{allBelow, member, different, allUpTo, validList, pairs, objectsOf}
 
 pub count-objects : (s : List ℕ) → length (objectsOf s) ≡ length s / 2
 unfolding objectsOf
@@ -110,3 +108,22 @@ objects-pairs (o ∷ l) h =
     let b : o ≤ 255 = leb-true o 255 (k .0) in
     let e : o % 256 + 256 * (o / 256 % 256) ≡ o = omega arith in
     rw (e, objects-pairs l (k .1))
+
+-- a list takes 2 bytes an object
+pub length-pairs : (l : List ℕ) → length l + length l ≡ length (pairs l)
+unfolding pairs bytes
+length-pairs [] = refl
+length-pairs (o ∷ l) = let k = length-pairs l in omega arith
+
+-- one step of a test of every object of a list
+pub below-on : (n : ℕ) (l : List ℕ) (i : ℕ) → i < length l → getD l i 0 < n → allBelow n (drop i l) ≡ allBelow n (drop (i + 1) l)
+unfolding allBelow
+below-on n l i h k = rw (drop-cons l i 0 h, add-one, lt-ltb _ _ k)
+
+pub below-not : (n : ℕ) (l : List ℕ) (i : ℕ) → i < length l → n ≤ getD l i 0 → allBelow n (drop i l) ≡ false
+unfolding allBelow
+below-not n l i h k = rw (drop-cons l i 0 h, le-ltb _ _ k)
+
+pub below-end : (n : ℕ) (l : List ℕ) (i : ℕ) → i ≡ length l → allBelow n (drop i l) ≡ true
+unfolding allBelow
+below-end n l i e = rw (e, drop-length l)

@@ -24,6 +24,9 @@ pub record Record : Type 0 where
   pub program : ℕ
   pub operation : Operation
 
+abbrev pub recordOf : ℕ → ℕ → Operation → Record
+recordOf sequence program o = record { sequence = sequence; program = program; operation = o }
+
 abbrev pub kindOf : Operation → Kind
 kindOf (createFile o p n) = CreateFile
 kindOf (makeDirectory o p n) = MakeDirectory

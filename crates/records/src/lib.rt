@@ -1,7 +1,4 @@
-// Loss records (document 01, "Loss record"): the kinds with their codes and maps, the reader and the writer.
-pub mod fit;
+// Loss records (document 01, "Loss record"): the kinds with their codes and maps, lists of objects, and what is valid.
 pub mod kind;
 pub mod list;
-pub mod number;
-pub mod reader;
-pub mod writer;
+pub mod valid;

@@ -1,11 +1,9 @@
 // Lists of objects, 2 bytes an object: field 8 of a record, and what forder is lent.
 ghost use mathlib.Core.Path.{_≡_};
-ghost use Prim.Native.Nat.{_+_, _*_, _<_, _≤_};
-ghost use mathlib.Core.Bool.{not, _&&_};
+ghost use Prim.Native.Nat.{_+_, _<_, _≤_};
 ghost use lib.ListN.{length, getD, drop};
-ghost use Rattle.records.specs.Fields.{member, different, allUpTo, validList};
-ghost use Rattle.records.specs.Reader.{objectsOf};
-use crate::number::two_at;
+ghost use Rattle.records.specs.Fields.{allBelow, member, validList, objectsOf};
+use buffer::number::two_at;
 
 // The object at a position of a list.
 pub fn object_of(list: &[u8], i: usize) -> usize
@@ -49,6 +47,21 @@ pub fn good_list(list: &[u8]) -> bool
             return false;
         }
         if listed_from(list, i + 1, object) {
+            return false;
+        }
+        i += 1;
+    }
+    true
+}
+
+// Whether every object of a list is below n.
+pub fn list_below(list: &[u8], n: usize) -> bool
+    ensures { λ r. ⌜ r ≡ allBelow n (objectsOf (now (list .entry))) ⌝ }
+{
+    let count = list.len() / 2;
+    let mut i = 0;
+    while i < count {
+        if n <= object_of(list, i) {
             return false;
         }
         i += 1;

@@ -1,172 +1,280 @@
--- Demand 3: the claims hold after every accepted mount and every list of calls.
-use Prim.Native.Nat.{ℕ, _<_}
+-- The claim on every list of calls, clause by clause.
+use Prim.Native.Nat.{ℕ, suc, _+_, _<_, _≤_}
 use native.Mathlib.Omega.{arith}
 use mathlib.Core.Path.{_≡_, refl, sym, ap, _∙_, subst}
-use mathlib.Core.Logic.{⊎-elim, _↔_}
-use mathlib.Core.List.{List, [], _∷_, _++_, map, List·Memᴰ, List·Memᴰ·head, List·Memᴰ·tail, List·Memᴰ·not-nil, List·Memᴰ·cases-cons}
-use mathlib.Core.Bool.{Bool, true, false, cond}
-use mathlib.Core.Option.{Option, none, some}
-use lib.ListN.{take, getD}
+use mathlib.Core.Logic.{_↔_, ⊎-elim}
+use mathlib.Core.List.{List, [], _∷_, _++_, map, List·Memᴰ, List·Memᴰ·head, List·Memᴰ·tail, List·Memᴰ·not-nil, List·Memᴰ·cases-cons, append-nil, append-assoc, map-append, Memᴰ·append-left}
+use mathlib.Core.Bool.{Bool, true, false, not, _&&_, _||_, cond}
+use mathlib.Core.Option.{some}
+use lib.ListN.{length}
+use lib.ListN
 use lib.Dec.{eqb}
-use Rattle.records.specs.Operation.{Record}
-use Rattle.records.specs.Fields.{encode}
-use Rattle.volume.specs.Volume.{Volume}
-use Rattle.volume.specs.Form.{wellFormed}
-use Rattle.volume.specs.Stored.{encodeVolume, decodeVolume}
-use Rattle.volume.specs.StoredLaws.{encode-decode}
-use Rattle.volume.specs.Apply.{applies, apply}
-use Rattle.log.specs.Slot.{emptyLog}
+use borrow.Author.Tests.{eq-eqb, not-true, not-false}
+use Rattle.returned.specs.Returned
+use Rattle.records.specs.Operation.{Operation, Record, operands}
+use Rattle.records.specs.Fields.{encode, valid}
+use Rattle.search.specs.Volume.{Volume}
+use Rattle.search.specs.Stored.{encodeVolume}
+use Rattle.applies.specs.Apply.{applies, apply}
 use Rattle.log.specs.Programs.{holds}
-use Rattle.log.specs.SlotLaws.{empty-good}
-use Rattle.log.specs.Change.{waitingOf}
-use Rattle.log.specs.Stored.{encodeLog}
-use Rattle.log.specs.PartitionLaws.{applyAll, ApplyInTurn, picked, Closed}
-use Rattle.session.specs.Call.{Geometry, Buffers, Call, Answer, inRange, lengthsFit}
-use Rattle.session.specs.Model.{Model, model}
-use Rattle.session.specs.Step.{Result, outcome, step, mount, decodeModel}
-use Rattle.session.specs.EditLaws.{Sound}
-use Rattle.session.specs.StepLaws.{Holds, step-holds, mount-holds, model-stored}
+use Rattle.log.specs.Order.{any, before, needed, preceded}
+use Rattle.log.specs.OrderLaws.{Rising, direct-decides}
+use Rattle.log.specs.Change.{waitingOf, lossesOf}
+use Rattle.log.specs.ChangeLaws.{at-waiting, waiting-at, waiting-in-order}
+use Rattle.session.specs.Call.{Geometry, Buffers, Call, fsync, push, take as takeLoss, Answer}
+use Rattle.session.specs.Model.{Model}
+use Rattle.session.specs.Issue.{alters}
+use Rattle.session.specs.Send.{applying, fsyncOf, pushOf}
+use Rattle.session.specs.Effect.{Effect, note, issue, send, sends, issuing, perform, acceptedEffects, refusedEffects, effectsOf}
+use Rattle.session.specs.Step.{answerOf, effectsIn, leavesOf, step, mount, decodeModel}
+use Rattle.session.specs.PossibleLaws.{Sendable}
+use Rattle.session.specs.ReadyLaws.{Ready, needed-ready, ready-take, first-sent}
+use Rattle.session.specs.CallLaws.{push-accepted}
+use Rattle.session.specs.AnswerLaws.{Damaged, byPush, bySync, damaged-why, push-passes, Changes, change-answered, sync-answered, link-answered}
+use Rattle.session.specs.StepLaws.{Holds, step-holds, mountedModel}
 use Rattle.register.specs.Replay.{replay}
-use Rattle.register.specs.Register.{Register, opened, feed, Acknowledged, isWaiting, isSent, directly, chosen, serverOf, viewOf, Deed, asks, changes, sends, syncs, cuts, takes, renews, deedOf, accepted, turnedDown, after, touch, lostIn, sentIn, neededFor}
-use Rattle.register.specs.History.{Is, Precedes, direct, through, Marked}
-use Rattle.register.specs.Run.{Run, run, Mounted, play}
-use Rattle.register.specs.Claim.{AppliesInTurn, SentAt, Demand}
-use Rattle.register.specs.Kept.{lossOf, isLive, Kept}
-use Rattle.register.specs.PickLaws.{picked-none}
-use Rattle.register.specs.CallLaws.{chosen-picked, replay-all, sent-turn, server-replayed, view-replayed}
-use Rattle.register.specs.KeptLaws.{numbers-rise}
-use Rattle.register.specs.TimeLaws.{Timed}
-use Rattle.register.specs.RunLaws.{Good, call-good}
-use Rattle.register.specs.MountLaws.{opened-good, mounted-holds}
-use Rattle.register.specs.MarkLaws.{mounted-told}
-use Rattle.register.specs.FetchRun.{play-taken, taken-all, all-taken, play-recorded}
-use Rattle.register.specs.FetchOnce.{fetched-once}
-use Rattle.register.specs.CouldLaws.{could, closed-sendable}
-use Rattle.register.specs.CoverLaws.{fsync-covered}
+use Rattle.register.specs.Register.{Register, opened, Acknowledged, isWaiting, isSent, chosen, sentIn, waitingIn, viewOf, neededFor, acknowledged, sending, happen, happenAll}
+use Rattle.register.specs.History.{Is, Precedes, Marked}
+use Rattle.register.specs.Run.{State, Moment, Run, next, run, Mounted, play}
+use Rattle.register.specs.Takes.{lostBy, lostRecords, fetchedBy, Distinct}
+use Rattle.register.specs.Claim.{AppliesInTurn, SentAt, Covers, Unpreceded, Adds, Answers, Demand, ownLosses, lossOf}
+use Rattle.register.specs.FateLaws.{Among, no-both, or-true, send-sent, send-loss}
+use Rattle.register.specs.InvariantLaws.{Kept, Good}
+use Rattle.register.specs.OperationLaws.{numbers-rise, chosen-there, in-map}
+use Rattle.register.specs.KeptLaws.{server-replayed, view-replayed, waiting-same, sent-applies, waiting-logged}
+use Rattle.register.specs.GoodLaws.{good-applies}
+use Rattle.register.specs.PrecedesLaws.{precedes-sent, unpreceded, needs-exact}
+use Rattle.register.specs.SinceLaws.{since-same, since-then, sent-since}
+use Rattle.register.specs.FetchLaws.{opened-fetched}
+use Rattle.register.specs.TakeLaws.{refused-none, none-left}
+use Rattle.register.specs.LossLaws.{fetched-distinct, distinct-prefix, decoded-own}
+use Rattle.register.specs.RunLaws.{Led, effect-kept, led-fed, lastModel, run-led, next-since, Met, run-met, Took, run-took, mounted-led, read-once}
+use Rattle.register.specs.CouldLaws.{could}
 
--- what is kept of a whole list
-pub record Played (g : Geometry) (r : Run) : Type 0 where
-  pub state : Model
-  pub holds : Holds g (r .leaves) state
-  pub good : Good g (r .register) state
-  pub undamaged : (a : Answer) → List·Memᴰ a (r .answers) → a .returned ≡ 2 → ⊥
+module _ (g : Geometry) where
+  -- all of what is ready applies to the server, one after the other
+  pub ready-applies : (l : List Record) (r : Register) (x : Model) → Good g r x → Ready (waitingOf (x .log .slots)) l → length l ≤ applying l (x .server)
+  unfolding applying
+  ready-applies [] r x k d = omega arith
+  ready-applies (q ∷ l) r x k d =
+      let f = first-sent g x q l (k .kept .sound) d in
+      let fit = good-applies g r x k q (d .wait q (List·Memᴰ·head refl)) (f .free) in
+      let can : Sendable x (q .sequence) q = record { found = f .found; fit = fit; free = f .free } in
+      let rest = ready-applies l (happen (send (q .sequence)) r) (perform (send (q .sequence)) x) (effect-kept g r x (send (q .sequence)) k (q, can)) (f .ready) in
+      subst (λ (t : Bool). suc (length l) ≤ cond t (suc (applying l (apply (x .server) (q .operation)))) 0) (sym fit) (on (subst (λ (v : Volume). length l ≤ applying l v) (f .server) rest))
+    where
+      on : {a b : ℕ} → a ≤ b → suc a ≤ suc b
+      on h = omega arith
 
-pub run-good : (g : Geometry) (cs : List Call) (s : Buffers) (r : Register) (x : Model) → Holds g s x → Good g r x → Played g (run g cs s r)
-unfolding run
-run-good g [] s r x h k = record { state = x; holds = h; good = k; undamaged = λ a m. absurd (List·Memᴰ·not-nil m) }
-run-good g (c ∷ cs) s r x h k =
-    let st = step-holds g c s x h in
-    let cg = call-good g r x k c in
-    let first = step g c s in
-    let good : Good g (feed c (first .gives) r) (outcome g c x .leaves) = subst (λ (a : Answer). Good g (feed c a r) (outcome g c x .leaves)) (sym (st .0)) (cg .0) in
-    let rest = run-good g cs (first .leaves) (feed c (first .gives) r) (outcome g c x .leaves) (st .1) good in
-    record {
-      state = rest .state;
-      holds = rest .holds;
-      good = rest .good;
-      undamaged = λ a m. ⊎-elim (λ (e : a ≡ first .gives). λ z. cg .1 (ap (λ (y : Answer). y .returned) (sym (e ∙ st .0)) ∙ z)) (λ (n : List·Memᴰ a (run g cs (first .leaves) (feed c (first .gives) r) .answers)). rest .undamaged a n) (List·Memᴰ·cases-cons m);
-    }
+  -- so no call says that something is damaged
+  pub never-damaged : (r : Register) (x : Model) → Good g r x → (c : Call) → answerOf g c x .returned ≡ Returned.damaged → ⊥
+  never-damaged r x k c e = go c (damaged-why g x c e)
+    where
+      go : (d : Call) → Damaged x d → ⊥
+      go d (byPush q z is free fails) =
+          no-both (applies (x .server) (z .operation)) (good-applies g r x k z (at-waiting q (x .log) z is .0) free) fails
+      go d (bySync p o j lt) =
+          let w = waitingOf (x .log .slots) in
+          let all = ready-applies (ListN.take j (needed o w)) r x k (ready-take w (needed o w) j (needed-ready w o (waiting-in-order (g .objects) (g .blocks) (g .capacity) (x .log) (k .kept .sound .log)))) in
+          omega arith
 
--- a register as an accepted mount leaves it
-pub mounted-played : (g : Geometry) (s : Buffers) (v : Volume) → Mounted g s v → (cs : List Call) → Played g (play g s v cs)
-mounted-played g s v m cs =
-    let h = mounted-holds g s v m in
-    run-good g cs (mount g s .leaves) (opened v) (model v v emptyLog) h (opened-good g v (h .sound))
+-- the operations that a call issues are added at the end, the first with the next number
+issued-operations : (p : ℕ) (os : List Operation) (r : Register) → (others : List Acknowledged) × (happenAll (issuing p os) r .operations ≡ r .operations ++ others)
+unfolding issuing happenAll happen
+issued-operations p [] r = ([], sym (append-nil (r .operations)))
+issued-operations p (o ∷ os) r =
+    let s = happen (issue p o) (happen (note p (operands o)) r) in
+    let rest = issued-operations p os s in
+    (acknowledged p o (happen (note p (operands o)) r) ∷ rest .0, rest .1 ∙ append-assoc (r .operations) (acknowledged p o (happen (note p (operands o)) r) ∷ []) (rest .0))
 
-accepted-mounted : (d : Deed) (r : Register) → accepted d r .mounted ≡ r .mounted
-accepted-mounted (asks p ops) r = refl
-accepted-mounted (changes p os) r = refl
-accepted-mounted (sends q) r = refl
-accepted-mounted (syncs p o k) r = refl
-accepted-mounted cuts r = refl
-accepted-mounted takes r = refl
-accepted-mounted (renews p) r = refl
+first-issued : (p : ℕ) (o : Operation) (os : List Operation) (r : Register)
+    → (a : Acknowledged) × (others : List Acknowledged) × (happenAll (issuing p (o ∷ os)) r .operations ≡ r .operations ++ (a ∷ others)) × (a .loss .sequence ≡ length (r .operations) + 1)
+unfolding issuing happenAll happen
+first-issued p o os r =
+    let s = happen (issue p o) (happen (note p (operands o)) r) in
+    let rest = issued-operations p os s in
+    let a = acknowledged p o (happen (note p (operands o)) r) in
+    (a, rest .0, rest .1 ∙ append-assoc (r .operations) (a ∷ []) (rest .0), refl)
 
-refused-mounted : (n told : ℕ) (d : Deed) (r : Register) → turnedDown n told d r .mounted ≡ r .mounted
-refused-mounted n told (asks p ops) r = refl
-refused-mounted n told (changes p os) r = refl
-refused-mounted n told (sends q) r = refl
-refused-mounted n told (syncs p o k) r = go (eqb n 17) (eqb n 2)
-  where
-    go : (a b : Bool)
-        → cond a (after r (lostIn r (sentIn r (take k (neededFor o r)))) (touch r p (o ∷ [])) []) (cond b (after r (sentIn r (take told (neededFor o r))) [] []) (after r (r .operations) [] [])) .mounted ≡ r .mounted
-    go true b = refl
-    go false true = refl
-    go false false = refl
-refused-mounted n told cuts r = refl
-refused-mounted n told takes r = refl
-refused-mounted n told (renews p) r = refl
+accepted-effects : (g : Geometry) (c : Call) (x : Model) → answerOf g c x .returned ≡ 0 → effectsIn g c x ≡ acceptedEffects c (x .view) (waitingOf (x .log .slots))
+unfolding effectsOf
+accepted-effects g c x e = ap (λ (n : ℕ). cond (eqb n 0) (acceptedEffects c (x .view) (waitingOf (x .log .slots))) (refusedEffects c (answerOf g c x) (waitingOf (x .log .slots)))) e
 
-feed-mounted : (c : Call) (a : Answer) (r : Register) → feed c a r .mounted ≡ r .mounted
-unfolding feed
-feed-mounted c a r = go (eqb (a .returned) 0)
-  where
-    go : (b : Bool) → cond b (accepted (deedOf (viewOf r) c) r) (turnedDown (a .returned) (getD (a .results) 0 0) (deedOf (viewOf r) c) r) .mounted ≡ r .mounted
-    go true = accepted-mounted (deedOf (viewOf r) c) r
-    go false = refused-mounted (a .returned) (getD (a .results) 0 0) (deedOf (viewOf r) c) r
+-- what is sent stays sent over further sends
+sends-stay : (l : List Record) (r : Register) (q : ℕ) → SentAt r q → SentAt (happenAll (sends l) r) q
+unfolding happenAll happen
+sends-stay [] r q s = s
+sends-stay (z ∷ l) r q (a, m, n, e) =
+    sends-stay l (happen (send (z .sequence)) r) q (
+      sending (z .sequence) a,
+      in-map (sending (z .sequence)) (r .operations) a m,
+      ap (λ (y : Record). y .sequence) (send-loss (z .sequence) a) ∙ n,
+      send-sent (z .sequence) a ∙ ap (λ (t : Bool). t || eqb (a .loss .sequence) (z .sequence)) e,
+    )
 
--- the mounted volume stays what it was
-pub mounted-stays : (g : Geometry) (cs : List Call) (s : Buffers) (r : Register) → run g cs s r .register .mounted ≡ r .mounted
-unfolding run
-mounted-stays g [] s r = refl
-mounted-stays g (c ∷ cs) s r = mounted-stays g cs (step g c s .leaves) (feed c (step g c s .gives) r) ∙ feed-mounted c (step g c s .gives) r
+-- an operation of which a record is sent is sent
+sends-send : (l : List Record) (r : Register) (a : Acknowledged) → Is a r → (z : Record) → List·Memᴰ z l → a .loss ≡ z → SentAt (happenAll (sends l) r) (a .loss .sequence)
+unfolding happenAll happen
+sends-send [] r a m z k e = absurd (List·Memᴰ·not-nil k)
+sends-send (y ∷ l) r a m z k e =
+    let b = sending (y .sequence) a in
+    let mb = in-map (sending (y .sequence)) (r .operations) a m in
+    ⊎-elim
+    (λ (h : z ≡ y).
+    let own : eqb (a .loss .sequence) (y .sequence) ≡ true = eq-eqb _ _ (ap (λ (u : Record). u .sequence) (e ∙ h)) in
+    sends-stay l (happen (send (y .sequence)) r) (a .loss .sequence)
+    (b, mb, ap (λ (u : Record). u .sequence) (send-loss (y .sequence) a), send-sent (y .sequence) a ∙ ap (λ (t : Bool). isSent a || t) own ∙ or-true (isSent a)))
+    (λ (h : List·Memᴰ z l).
+    subst (λ (u : Record). SentAt (happenAll (sends l) (happen (send (y .sequence)) r)) (u .sequence)) (send-loss (y .sequence) a)
+    (sends-send l (happen (send (y .sequence)) r) b mb z h (send-loss (y .sequence) a ∙ e)))
+    (List·Memᴰ·cases-cons k)
 
--- in turn, as a replay goes
-turn-split : (v : Volume) (l : List Acknowledged) → ApplyInTurn lossOf v l → (before after : List Record) (r : Record) → map lossOf l ≡ before ++ (r ∷ after) → applies (replay v before) (r .operation) ≡ true
-unfolding replay
-turn-split v [] t [] after r e = let z : _≡_ {A = ℕ} 0 1 = cc in absurd (omega arith)
-turn-split v [] t (b ∷ before) after r e = let z : _≡_ {A = ℕ} 0 1 = cc in absurd (omega arith)
-turn-split v (a ∷ l) t [] after r e = let z : a .loss ≡ r = cc in subst (λ (y : Record). applies v (y .operation) ≡ true) z (t .0)
-turn-split v (a ∷ l) t (b ∷ before) after r e =
-    let z : a .loss ≡ b = cc in
-    let w : map lossOf l ≡ before ++ (r ∷ after) = cc in
-    let ih = turn-split (apply v (a .loss .operation)) l (t .1) before after r w in
-    let fits : applies v (b .operation) ≡ true = subst (λ (y : Record). applies v (y .operation) ≡ true) z (t .0) in
-    let on : replay (cond (applies v (b .operation)) (apply v (b .operation)) v) before ≡ replay (apply v (a .loss .operation)) before =
-    ap (λ (t : Bool). replay (cond t (apply v (b .operation)) v) before) fits ∙ ap (λ (y : Record). replay (apply v (y .operation)) before) (sym z) in
-    ap (λ (y : Volume). applies y (r .operation)) on ∙ ih
+module _ (g : Geometry) (v : Volume) where
+  -- an accepted fsync sends what it covers
+  fsync-sends : (s : State) (x : Model) → Led g v s x → (p o k : ℕ) → answerOf g (fsync p o k) x .returned ≡ 0 → (a : Acknowledged) → Covers (s .register) o a
+      → SentAt (next g (fsync p o k) s .register) (a .loss .sequence)
+  unfolding happenAll happen
+  fsync-sends s x l p o k e a c =
+      let r = s .register in
+      let w = waitingOf (x .log .slots) in
+      let rise = numbers-rise 1 (r .operations) (l .good .kept .numbers) in
+      let need : List·Memᴰ (a .loss) (needed o w) =
+      subst (λ (z : List Record). List·Memᴰ (a .loss) (needed o z)) (waiting-same g r x (l .good .kept)) (needs-exact r (l .good .timed) rise o (a .loss) .1 (a, refl, c)) in
+      subst (λ (z : Register). SentAt z (a .loss .sequence)) (sym (led-fed g v s x l (fsync p o k) ∙ ap (λ (es : List Effect). happenAll es r) (accepted-effects g (fsync p o k) x e)))
+      (sends-send (needed o w) (happen (note p (o ∷ [])) r) a (c .acknowledged) (a .loss) need refl)
 
--- a chain of predecessors of a sent operation is sent
-precedes-sent : (r : Register) → Timed (r .operations) (r .clock) → {a c : Acknowledged} → Precedes r a c → Is a r → Is c r → isSent c ≡ true → isSent a ≡ true
-precedes-sent r t (direct d) ma mc s = t .shut _ _ ma mc s d
-precedes-sent r t (through mb p q l) ma mc s = precedes-sent r t p ma mb (precedes-sent r t q mb mc s)
+  -- what a call answers
+  answers : (m : Moment) (r : Run) → Met g v m r → Answers g m
+  unfolding answerOf
+  answers m r k =
+      let x = k .model in
+      let s = m .before in
+      let told : (n : ℕ) → m .answer .returned ≡ n → answerOf g (m .call) x .returned ≡ n = λ n e. ap (λ (a : Answer). a .returned) (sym (k .answer)) ∙ e in
+      record {
+        change = λ al e.
+            let c = change-answered g x (k .led .good .kept .sound) (m .call) al (told 0 e) in
+            let f = first-issued (c .program) (c .first) (c .others) (s .register) in
+            record {
+              first = f .0;
+              others = f .1;
+              added =
+                  ap (λ (z : Register). z .operations)
+                  (led-fed g v s x (k .led) (m .call) ∙ ap (λ (es : List Effect). happenAll es (s .register)) (accepted-effects g (m .call) x (told 0 e) ∙ c .effects (x .view) (waitingOf (x .log .slots)) refl))
+                  ∙ f .2;
+              told = ap (λ (a : Answer). a .results) (k .answer) ∙ c .results ∙ ap (λ (n : ℕ). n ∷ []) (k .led .good .kept .next ∙ sym (f .3));
+            };
+        sync = λ p o j is e. sync-told p o j is (told 0 e);
+        link = λ p o j is e. link-told p o j is (told Returned.linkLost e);
+      }
+    where
+      waits : waitingOf (k .model .log .slots) ≡ waitingIn (m .before .register)
+      waits = sym (waiting-same g (m .before .register) (k .model) (k .led .good .kept))
 
-server-is : (r : Register) → serverOf r ≡ replay (r .mounted) (chosen isSent (r .operations))
-unfolding serverOf
-server-is r = refl
+      by : (p o j : ℕ) → m .call ≡ fsync p o j → m .answer ≡ fsyncOf p o j (k .model)
+      by p o j is = k .answer ∙ ap (λ (c : Call). answerOf g c (k .model)) is
 
--- the model that buffers store is the one that they are read as
-read-once : (g : Geometry) (s : Buffers) (x y : Model) → Holds g s x → decodeModel g s ≡ some y → x ≡ y
-read-once g s x y h e = let z : some x ≡ some y = sym (h .read) ∙ e in cc
+      sync-told : (p o j : ℕ) → m .call ≡ fsync p o j → answerOf g (m .call) (k .model) .returned ≡ 0 → m .answer .results ≡ length (neededFor o (m .before .register)) ∷ []
+      sync-told p o j is e =
+          ap (λ (a : Answer). a .results) (by p o j is) ∙ sync-answered p o j (k .model) (ap (λ (c : Call). answerOf g c (k .model) .returned) (sym is) ∙ e)
+          ∙ ap (λ (w : List Record). length (needed o w) ∷ []) waits
 
-pub demand : (g : Geometry) (s : Buffers) (v : Volume) → Mounted g s v → (cs : List Call) → Demand g s v cs
+      link-told : (p o j : ℕ) → m .call ≡ fsync p o j → answerOf g (m .call) (k .model) .returned ≡ Returned.linkLost
+          → (m .answer .results ≡ j ∷ []) × (j < length (neededFor o (m .before .register)))
+      link-told p o j is e =
+          let a = link-answered p o j (k .model) (ap (λ (c : Call). answerOf g c (k .model) .returned) (sym is) ∙ e) in
+          (ap (λ (b : Answer). b .results) (by p o j is) ∙ a .0, subst (λ (w : List Record). j < length (needed o w)) waits (a .1))
+
+  -- the push of a waiting operation
+  push-exact : (s : State) (x : Model) → Led g v s x → (a : Acknowledged) → Is a (s .register) → isWaiting a ≡ true
+      → (step g (push (a .loss .sequence)) (s .buffers) .gives .returned ≡ 0) ↔ Unpreceded (s .register) a
+  unfolding answerOf
+  push-exact s x l a m wa =
+      let r = s .register in
+      let w = waitingOf (x .log .slots) in
+      let q = a .loss .sequence in
+      let same = waiting-same g r x (l .good .kept) in
+      let u = unpreceded r (l .good .timed) a m wa in
+      let is = step-holds g (push q) (s .buffers) x (l .holds) .gives in
+      let there = waiting-logged g r x (l .good .kept) a m wa in
+      let at = waiting-at (g .objects) (g .blocks) (g .capacity) (x .log) (l .good .kept .sound .log) there in (
+        (λ e.
+            let f = push-accepted q x (ap (λ (b : Answer). b .returned) (sym is) ∙ e) in
+            let z : some (f .0) ≡ some (a .loss) = sym (f .1 .found) ∙ at in
+            let own : f .0 ≡ a .loss = cc in
+            u .0 (ap (λ (k : List Record). preceded k (a .loss)) same ∙ direct-decides w (a .loss) ∙ ap (λ (y : Record). any (λ b. before b y) w) (sym own) ∙ f .1 .free)),
+        λ h.
+            let free : any (λ b. before b (a .loss)) w ≡ false = sym (direct-decides w (a .loss)) ∙ ap (λ (k : List Record). preceded k (a .loss)) (sym same) ∙ u .1 h in
+            ap (λ (b : Answer). b .returned) (is ∙ push-passes q x (a .loss) at free (good-applies g r x (l .good) (a .loss) there free)),
+      )
+
+-- what stands in the register and the log of a program's losses
+fetched-is : (p : ℕ) (r : Register) (slots : List Record) (all : List Record) → chosen (lostBy p) (r .operations) ≡ all ++ slots → lostRecords p r ≡ map encode all ++ map encode slots
+fetched-is p r slots all e = ap (map encode) e ∙ map-append encode all slots
+
+pub demand : (g : Geometry) (s : Buffers) (v : Volume) → Mounted g s v → (cs : List Call) → Demand g v (play g s v cs)
 demand g s v m cs =
-    let p = mounted-played g s v m cs in
-    let r = play g s v cs .register in
-    let k = p .good .kept in
-    let mv : r .mounted ≡ v = mounted-stays g cs (mount g s .leaves) (opened v) in
-    let told = mounted-told g s v m cs in
     record {
-      replayed = ap (λ (y : Buffers). y .server) (sym (p .holds .stored)) ∙ ap (encodeVolume (g .blocks)) (sym (server-replayed g r (p .state) k) ∙ server-is r ∙ ap (λ (w : Volume). replay w (chosen isSent (r .operations))) mv);
-      applied = λ before after rec e.
-          subst (λ (w : Volume). applies (replay w before) (rec .operation) ≡ true) mv
-          (turn-split (r .mounted) (picked isSent (r .operations)) (sent-turn g r (p .state) k) before after rec (sym (chosen-picked isSent (r .operations)) ∙ e));
-      undamaged = p .undamaged;
-      viewed = ap (λ (y : Buffers). y .view) (sym (p .holds .stored)) ∙ ap (encodeVolume (g .blocks)) (sym (view-replayed g r (p .state) k));
-      stored = (p .state, p .holds .read);
-      recorded = λ x e. (
-        ap (λ (y : Model). waitingOf (y .log .slots)) (sym (read-once g (play g s v cs .leaves) (p .state) x (p .holds) e)) ∙ k .waiting ∙ sym (chosen-picked isWaiting (r .operations)),
-        λ q. play-recorded g s v m cs x e q,
-      );
-      closed = λ a c ma mc sc pr. precedes-sent r (p .good .timed) pr ma mc sc;
-      covered = λ before after q o n e ok a c.
-          let b = mounted-played g s v m before in
-          subst (λ (l : List Call). SentAt (play g s v l .register) (a .loss .sequence)) (sym e)
-          (fsync-covered g before after (mount g s .leaves) (opened v) q o n (numbers-rise 1 (play g s v before .register .operations) (b .good .kept .numbers)) ok a c);
-      couldHaveBeenSent = λ set c. could g s v m cs set (closed-sendable r set (c .sent) (c .lost) (λ a b ma mb wa wb pr e. c .closed a b ma mb pr e));
-      marked = λ x e q lt. subst (λ (y : Model). (holds (y .log .marks) q ≡ true) ↔ Marked r q) (read-once g (play g s v cs .leaves) (told .state) x (told .stored) e) (told .known .depended .marks q lt);
-      fetched = λ q. let t = play-taken g s v m cs q in (map encode (t .left), t .prefix);
-      fetchedOnce = λ q. fetched-once g s v m cs q;
-      fetchedAll = λ q own e. taken-all g s v m cs q own e;
-      fetchedWhole = λ q le. all-taken q cs (play g s v cs) (play-taken g s v m cs q) le;
+      replayed =
+          ap (λ (y : Buffers). y .server) (sym (l .holds .stored))
+          ∙ ap (encodeVolume (g .blocks)) (sym (server-replayed g r x kept) ∙ ap (λ (w : Volume). replay w (sentIn r)) (l .mounted));
+      applied = subst (λ (w : Volume). AppliesInTurn w (sentIn r)) (l .mounted) (sent-applies g r x kept);
+      undamaged = λ n h e. let k = met n h in never-damaged g (n .before .register) (k .model) (k .led .good) (n .call) (ap (λ (a : Answer). a .returned) (sym (k .answer)) ∙ e);
+      viewed = ap (λ (y : Buffers). y .view) (sym (l .holds .stored)) ∙ ap (encodeVolume (g .blocks)) (sym (view-replayed g r x kept));
+      stored = (x, l .holds .read);
+      waits = λ y e. ap (λ (z : Model). waitingOf (z .log .slots)) (sym (same y e)) ∙ sym (waiting-same g r x kept);
+      losses = λ y e p. held p ∙ ap (λ (z : Model). ownLosses p (play g s v cs) z) (same y e);
+      closed = λ a c ma mc sc pr. precedes-sent r (l .good .timed) pr ma mc sc;
+      needs = λ o q. needs-exact r (l .good .timed) rise o q;
+      covered = λ n h p o k is e a c.
+          let t = met n h in
+          sent-since (next g (n .call) (n .before) .register) r (t .since) (a .loss .sequence)
+          (subst (λ (d : Call). SentAt (next g d (n .before) .register) (a .loss .sequence)) (sym is)
+          (fsync-sends g v (n .before) (t .model) (t .led) p o k (ap (λ (d : Call). answerOf g d (t .model) .returned) (sym is) ∙ ap (λ (b : Answer). b .returned) (sym (t .answer)) ∙ e) a c));
+      answered = λ n h. answers g v n (play g s v cs) (met n h);
+      pushed = λ a ma wa. push-exact g v (play g s v cs .last) x l a ma wa;
+      couldHaveBeenSent = λ n h set c.
+          let t = met n h in
+          could g v (n .before) (t .model) (t .led) r
+          (since-then (n .before .register) (next g (n .call) (n .before) .register) r (next-since g v (n .before) (t .model) (t .led) (n .call)) (t .since)) set c;
+      canBeSent = λ set c. could g v (play g s v cs .last) x l r (since-same r) set c;
+      marked = λ y e p lt. subst (λ (z : Model). (holds (z .log .marks) p ≡ true) ↔ Marked r p) (same y e) (l .known .depended .marks p lt);
+      fetched = λ p. (map encode (lossesOf p (x .log .slots)), held p);
+      fetchedOnce = λ p. distinct-prefix (fetchedBy p (play g s v cs .moments)) (map encode (lossesOf p (x .log .slots))) (subst Distinct (held p) (fetched-distinct (r .operations) p rise valid-all));
+      fetchedAll = λ p own e.
+          let none = none-left p (x .log .slots) (refused-none g p own x (ap (λ (a : Answer). a .returned) (sym (step-holds g (takeLoss p own) (play g s v cs .last .buffers) x (l .holds) .gives)) ∙ e)) in
+          sym (held p ∙ ap (λ (k : List Record). fetchedBy p (play g s v cs .moments) ++ map encode k) none ∙ append-nil (fetchedBy p (play g s v cs .moments)));
+      decoded = λ p b h. decoded-own (r .operations) p valid-all b (subst (λ (k : List (List ℕ)). List·Memᴰ b k) (sym (held p)) (Memᴰ·append-left (map encode (lossesOf p (x .log .slots))) h));
     }
+  where
+    begin : State
+    begin = record { buffers = mount g s .leaves; register = opened v }
+
+    x : Model
+    x = lastModel g v cs (mountedModel v)
+
+    l : Led g v (play g s v cs .last) x
+    l = run-led g v cs begin (mountedModel v) (mounted-led g s v m)
+
+    r : Register
+    r = play g s v cs .last .register
+
+    kept : Kept g r x
+    kept = l .good .kept
+
+    rise : Rising (λ a. a .loss .sequence) (r .operations)
+    rise = numbers-rise 1 (r .operations) (kept .numbers)
+
+    valid-all : (a : Acknowledged) → Among a (r .operations) → valid (a .loss) ≡ true
+    valid-all a h = kept .fit a h .0
+
+    met : (n : Moment) → List·Memᴰ n (play g s v cs .moments) → Met g v n (play g s v cs)
+    met n h = run-met g v cs begin (mountedModel v) (mounted-led g s v m) n h
+
+    same : (y : Model) → decodeModel g (play g s v cs .last .buffers) ≡ some y → x ≡ y
+    same y e = read-once g (play g s v cs .last .buffers) x y (l .holds) e
+
+    took : Took g v cs begin (mountedModel v) (λ p. [])
+    took = run-took g v cs begin (mountedModel v) (mounted-led g s v m) (λ p. []) opened-fetched
+
+    held : (p : ℕ) → lostRecords p r ≡ fetchedBy p (play g s v cs .moments) ++ map encode (lossesOf p (x .log .slots))
+    held p = fetched-is p r (lossesOf p (x .log .slots)) (took .all p) (took .kept .losses p) ∙ ap (λ (k : List (List ℕ)). k ++ map encode (lossesOf p (x .log .slots))) (took .told p)

@@ -1,217 +1,223 @@
--- Every set of operations with all that were sent, none that was lost, and no waiting direct predecessor of a waiting member left
--- out, could have been sent.
-use Prim.Native.Nat.{ℕ, _<_}
-use native.Mathlib.Omega.{arith}
+-- Pushes of waiting operations that leave out no waiting predecessor of a member, in issue order, and then a cut: all are accepted, and
+-- just the members are sent besides.
+use Prim.Native.Nat.{ℕ}
 use mathlib.Core.Path.{_≡_, refl, sym, ap, _∙_, subst}
 use mathlib.Core.Logic.{⊎-elim}
-use mathlib.Core.List.{List, [], _∷_, _++_, map, List·Memᴰ, List·Memᴰ·head, List·Memᴰ·tail, List·Memᴰ·not-nil, List·Memᴰ·cases-cons}
-use mathlib.Core.Bool.{Bool, true, false, not, _&&_, _||_, cond, and-eq-true-iff}
+use mathlib.Core.List.{List, [], _∷_, _++_, map, List·Memᴰ, List·Memᴰ·head, List·Memᴰ·not-nil, List·Memᴰ·cases-cons}
+use mathlib.Core.Bool.{Bool, true, false, not, _&&_, _||_, cond, and-eq-true-iff, or-false}
 use lib.Dec.{eqb}
-use borrow.Author.Tests.{eq-eqb}
+use borrow.Author.Tests.{eqb-true, eq-eqb}
 use Rattle.records.specs.Operation.{Record}
-use Rattle.volume.specs.Volume.{Volume}
-use Rattle.log.specs.Order.{directlyPrecedes}
-use Rattle.log.specs.OrderLaws.{Rising, InOrder, or-left, or-right}
-use Rattle.log.specs.SlotLaws.{and-both}
-use Rattle.session.specs.Call.{Geometry, Buffers, Call, cut, Answer}
+use Rattle.search.specs.Volume.{Volume}
+use Rattle.log.specs.Order.{any}
+use Rattle.log.specs.OrderLaws.{Rising, any-in, in-any}
+use Rattle.log.specs.Change.{waitingOf}
+use Rattle.session.specs.Call.{Geometry, Call, push, cut, Answer}
 use Rattle.session.specs.Model.{Model}
-use Rattle.session.specs.Step.{step, outcome}
-use Rattle.session.specs.StepLaws.{Holds, step-holds}
-use Rattle.register.specs.Register.{Register, Acknowledged, Fate, waiting, sent, lost, isWaiting, isSent, isLost, chosen, feed, sending, losing, numbered, fated, goneBy, lostBefore}
-use Rattle.register.specs.History.{Precedes}
-use Rattle.register.specs.Run.{Run, run, Mounted, play, pushes, AllAccepted, CouldHaveBeenSent}
-use Rattle.register.specs.Kept.{lossOf}
+use Rattle.session.specs.Send.{pushOf}
+use Rattle.session.specs.Effect.{Effect, send, discard, perform, performAll, effectsOf}
+use Rattle.session.specs.Step.{answerOf, effectsIn, leavesOf, step}
+use Rattle.session.specs.AnswerLaws.{push-passes}
+use Rattle.session.specs.ReadyLaws.{Ready, Sent, first-sent}
+use Rattle.session.specs.StepLaws.{step-holds}
+use Rattle.register.specs.Register.{Register, Acknowledged, isWaiting, isSent, isLost, chosen, sending, losing, happen, happenAll}
+use Rattle.register.specs.Run.{State, Moment, Run, next, run, AllAccepted, instead, CouldHaveBeenSent}
+use Rattle.register.specs.History.{Is}
+use Rattle.register.specs.Claim.{lossOf, ClosedSet}
+use Rattle.register.specs.FateLaws.{Among, FateIs, waits, went, gone, fate-is, no-both, send-sent, send-loss, lose-sent, lose-loss}
 use Rattle.register.specs.PickLaws.{map-in}
 use Rattle.register.specs.SendLaws.{rising-unique}
-use Rattle.register.specs.KeptLaws.{numbers-rise, send-loss, waits-not-sent, lose-loss, lose-sent, numbered-in}
-use Rattle.register.specs.TimeLaws.{Among, Is, waits, went, gone, fate-is, no-both, directly-of}
-use Rattle.register.specs.SyncLaws.{Ready}
-use Rattle.register.specs.FetchLaws.{chosen-in}
-use Rattle.register.specs.FetchRun.{play-led}
-use Rattle.register.specs.PushLaws.{Played, plays, pushes-cut}
-use Rattle.register.specs.ReachLaws.{waiting-there}
+use Rattle.register.specs.OperationLaws.{numbers-rise, chosen-in, chosen-there}
+use Rattle.register.specs.KeptLaws.{waiting-same}
+use Rattle.register.specs.GoodLaws.{good-applies}
+use Rattle.register.specs.SinceLaws.{Since, closed-ready, closed-sent}
+use Rattle.register.specs.RunLaws.{Led, led-fed, next-led}
 
--- a set of operations, told by their numbers
-pub record Sendable (ops : List Acknowledged) (set : ℕ → Bool) : Type 0 where
-  pub sent : (a : Acknowledged) → Among a ops → isSent a ≡ true → set (a .loss .sequence) ≡ true
-  pub lost : (a : Acknowledged) → Among a ops → isLost a ≡ true → set (a .loss .sequence) ≡ false
-  pub closed : (w a : Acknowledged) → Among w ops → Among a ops → isWaiting w ≡ true → isWaiting a ≡ true → set (a .loss .sequence) ≡ true
-      → w .loss .sequence < a .loss .sequence → directlyPrecedes (w .loss .operation) (a .loss .operation) ≡ true → set (w .loss .sequence) ≡ true
+-- an operation after the sends of a list
+unfoldable pub sendingAll : List Record → Acknowledged → Acknowledged
+sendingAll [] a = a
+sendingAll (q ∷ l) a = sendingAll l (sending (q .sequence) a)
 
--- the members that wait, in issue order
-abbrev pub members : (ℕ → Bool) → List Acknowledged → List Record
-members set ops = chosen (λ a. set (a .loss .sequence) && isWaiting a) ops
+-- whether a list has a record of a number
+abbrev pub hasNumber : ℕ → List Record → Bool
+hasNumber n l = any (λ q. eqb n (q .sequence)) l
 
-chosen-there : (f : Acknowledged → Bool) (l : List Acknowledged) (a : Acknowledged) → Among a l → f a ≡ true → List·Memᴰ (a .loss) (chosen f l)
-unfolding chosen
-chosen-there f [] a m e = absurd (List·Memᴰ·not-nil m)
-chosen-there f (b ∷ l) a m e = ⊎-elim (λ (z : a ≡ b). here (f b) (sym (ap f z) ∙ e) z) (λ (z : Among a l). on (f b) (chosen-there f l a z e)) (List·Memᴰ·cases-cons m)
-  where
-    here : (t : Bool) → t ≡ true → a ≡ b → List·Memᴰ (a .loss) (cond t (b .loss ∷ chosen f l) (chosen f l))
-    here true k z = List·Memᴰ·head (ap lossOf z)
-    here false k z = let y : _≡_ {A = ℕ} 0 1 = cc in absurd (omega arith)
+all-loss : (l : List Record) (a : Acknowledged) → lossOf (sendingAll l a) ≡ lossOf a
+unfolding sendingAll
+all-loss [] a = refl
+all-loss (q ∷ l) a = all-loss l (sending (q .sequence) a) ∙ send-loss (q .sequence) a
 
-    on : (t : Bool) → List·Memᴰ (a .loss) (chosen f l) → List·Memᴰ (a .loss) (cond t (b .loss ∷ chosen f l) (chosen f l))
-    on true k = List·Memᴰ·tail k
-    on false k = k
+or-assoc : (a b c : Bool) → ((a || b) || c) ≡ (a || (b || c))
+or-assoc true b c = refl
+or-assoc false b c = refl
 
--- what is chosen is in issue order
-pub chosen-rising : (f : Acknowledged → Bool) (l : List Acknowledged) → Rising (λ a. a .loss .sequence) l → InOrder (chosen f l)
-unfolding chosen
-chosen-rising f [] r = tt
-chosen-rising f (a ∷ l) r = go (f a) (chosen-rising f l (r .1))
-  where
-    go : (t : Bool) → InOrder (chosen f l) → InOrder (cond t (a .loss ∷ chosen f l) (chosen f l))
-    go true ih = ((λ q m. let c = chosen-in f l q m in let lt = r .0 (c .0) (c .1) in let e = ap (λ (z : Record). z .sequence) (c .3) in omega arith), ih)
-    go false ih = ih
+all-sent : (l : List Record) (a : Acknowledged) → isSent (sendingAll l a) ≡ (isSent a || hasNumber (a .loss .sequence) l)
+unfolding sendingAll any
+all-sent [] a = sym (or-false (isSent a))
+all-sent (q ∷ l) a =
+    all-sent l (sending (q .sequence) a) ∙ (λ i. send-sent (q .sequence) a i || hasNumber (send-loss (q .sequence) a i .sequence) l)
+    ∙ or-assoc (isSent a) (eqb (a .loss .sequence) (q .sequence)) (hasNumber (a .loss .sequence) l)
 
-pub members-ready : (ops : List Acknowledged) (set : ℕ → Bool) → Rising (λ a. a .loss .sequence) ops → Sendable ops set → Ready ops (members set ops)
-members-ready ops set rise s =
-    let test : Acknowledged → Bool = λ a. set (a .loss .sequence) && isWaiting a in
-    record {
-      order = chosen-rising test ops rise;
-      wait = λ q m. let c = chosen-in test ops q m in record { who = c .0; among = c .1; loss = c .3; waiting = and-eq-true-iff (set (c .0 .loss .sequence)) (isWaiting (c .0)) .0 (c .2) .1 };
-      full = λ q m w mw ww lt p.
-          let c = chosen-in test ops q m in
-          let b = and-eq-true-iff (set (c .0 .loss .sequence)) (isWaiting (c .0)) .0 (c .2) in
-          let lt′ : w .loss .sequence < c .0 .loss .sequence = subst (λ (z : Record). w .loss .sequence < z .sequence) (sym (c .3)) lt in
-          let p′ : directlyPrecedes (w .loss .operation) (c .0 .loss .operation) ≡ true = subst (λ (z : Record). directlyPrecedes (w .loss .operation) (z .operation) ≡ true) (sym (c .3)) p in
-          chosen-there test ops w mw (and-both (set (w .loss .sequence)) (isWaiting w) (s .closed w (c .0) mw (c .1) ww (b .1) (b .0) lt′ p′) ww);
-    }
+map-map : (f h : Acknowledged → Acknowledged) (l : List Acknowledged) → map f (map h l) ≡ map (λ a. f (h a)) l
+map-map f h [] = refl
+map-map f h (a ∷ l) = ap (λ (k : List Acknowledged). f (h a) ∷ k) (map-map f h l)
 
-numbered-there : (r : Record) (l : List Record) → List·Memᴰ r l → numbered (r .sequence) l ≡ true
-unfolding numbered
-numbered-there r [] m = absurd (List·Memᴰ·not-nil m)
-numbered-there r (q ∷ l) m =
-    ⊎-elim (λ (z : r ≡ q). or-left (eqb (q .sequence) (r .sequence)) (numbered (r .sequence) l) (eq-eqb _ _ (ap (λ (y : Record). y .sequence) (sym z))))
-    (λ (z : List·Memᴰ r l). or-right (eqb (q .sequence) (r .sequence)) (numbered (r .sequence) l) (numbered-there r l z)) (List·Memᴰ·cases-cons m)
+same-map : (l : List Record) (q : Record) (ops : List Acknowledged) → map (sendingAll l) (map (sending (q .sequence)) ops) ≡ map (sendingAll (q ∷ l)) ops
+unfolding sendingAll
+same-map l q ops = map-map (sendingAll l) (sending (q .sequence)) ops
 
-send-is : (l : List Record) (a : Acknowledged) → isSent (sending l a) ≡ (numbered (a .loss .sequence) l || isSent a)
-send-is l a = go (numbered (a .loss .sequence) l)
-  where
-    go : (b : Bool) → isSent (cond b (fated sent a) a) ≡ (b || isSent a)
-    go true = refl
-    go false = refl
+no-map : (ops : List Acknowledged) → map (sendingAll []) ops ≡ ops
+unfolding sendingAll
+no-map [] = refl
+no-map (a ∷ l) = ap (λ (k : List Acknowledged). a ∷ k) (no-map l)
 
--- after the pushes and the cut, just the members are sent
-just-members : (ops : List Acknowledged) (set : ℕ → Bool) → Sendable ops set → (t : ℕ) (a : Acknowledged) → Among a (map (losing t) (map (sending (members set ops)) ops)) → isSent a ≡ set (a .loss .sequence)
-just-members ops set s t a m =
-    let x = map-in lossOf (losing t) (map (sending (members set ops)) ops) a m in
-    let y = map-in lossOf (sending (members set ops)) ops (x .0) (x .1) in
-    let b = y .0 in
-    let loss : a .loss ≡ b .loss = ap lossOf (x .2) ∙ lose-loss t (x .0) ∙ ap lossOf (y .2) ∙ send-loss (members set ops) b in
-    ap isSent (x .2) ∙ lose-sent t (x .0) ∙ ap isSent (y .2) ∙ send-is (members set ops) b ∙ by b (y .1) (fate-is b) ∙ ap (λ (r : Record). set (r .sequence)) (sym loss)
-  where
-    mine : (b : Acknowledged) → numbered (b .loss .sequence) (members set ops) ≡ true → set (b .loss .sequence) ≡ true
-    mine b e =
-        let r = numbered-in (b .loss .sequence) (members set ops) e in
-        let c = chosen-in (λ a. set (a .loss .sequence) && isWaiting a) ops (r .0) (r .1) in
-        let k = and-eq-true-iff (set (c .0 .loss .sequence)) (isWaiting (c .0)) .0 (c .2) in
-        sym (ap set (ap (λ (z : Record). z .sequence) (c .3) ∙ r .2)) ∙ k .0
+-- the effects of an accepted push, and of a cut
+push-effects : (g : Geometry) (q : ℕ) (x : Model) → answerOf g (push q) x .returned ≡ 0 → effectsIn g (push q) x ≡ send q ∷ []
+unfolding effectsOf
+push-effects g q x e = ap (λ (n : ℕ). cond (eqb n 0) (send q ∷ []) []) e
 
-    unsent : (b : Acknowledged) → (n v : Bool) → numbered (b .loss .sequence) (members set ops) ≡ n → set (b .loss .sequence) ≡ v → (v ≡ true → n ≡ true) → n ≡ v
-    unsent b true true e k h = refl
-    unsent b false false e k h = refl
-    unsent b true false e k h = no-both (set (b .loss .sequence)) (mine b e) k
-    unsent b false true e k h = h refl
+cut-effects : (g : Geometry) (x : Model) → effectsIn g cut x ≡ discard ∷ []
+unfolding effectsOf answerOf
+cut-effects g x = refl
 
-    or-sent : (n : Bool) → (n || true) ≡ true
-    or-sent true = refl
-    or-sent false = refl
+push-is : (g : Geometry) (q : ℕ) (x : Model) → answerOf g (push q) x ≡ pushOf q x
+unfolding answerOf
+push-is g q x = refl
 
-    or-not : (n : Bool) → (n || false) ≡ n
-    or-not true = refl
-    or-not false = refl
+cut-is : (g : Geometry) (x : Model) → answerOf g cut x .returned ≡ 0
+unfolding answerOf
+cut-is g x = refl
 
-    by : (b : Acknowledged) → Among b ops → Is b → (numbered (b .loss .sequence) (members set ops) || isSent b) ≡ set (b .loss .sequence)
-    by b mb (went e w) = ap (λ (z : Bool). numbered (b .loss .sequence) (members set ops) || z) e ∙ or-sent (numbered (b .loss .sequence) (members set ops)) ∙ sym (s .sent b mb e)
-    by b mb (waits w e) =
-        ap (λ (z : Bool). numbered (b .loss .sequence) (members set ops) || z) e ∙ or-not (numbered (b .loss .sequence) (members set ops))
-        ∙ unsent b (numbered (b .loss .sequence) (members set ops)) (set (b .loss .sequence)) refl refl
-        (λ z. numbered-there (b .loss) (members set ops) (chosen-there (λ a. set (a .loss .sequence) && isWaiting a) ops b mb (and-both (set (b .loss .sequence)) (isWaiting b) z w)))
-    by b mb (gone u f e w) =
-        let l : isLost b ≡ true = λ i. not (w i || e i) in
-        let no = s .lost b mb l in
-        ap (λ (z : Bool). numbered (b .loss .sequence) (members set ops) || z) e ∙ or-not (numbered (b .loss .sequence) (members set ops))
-        ∙ unsent b (numbered (b .loss .sequence) (members set ops)) (set (b .loss .sequence)) refl refl (λ z. no-both (set (b .loss .sequence)) z no)
+send-operations : (q : ℕ) (r : Register) → happenAll (send q ∷ []) r .operations ≡ map (sending q) (r .operations)
+unfolding happenAll happen
+send-operations q r = refl
 
--- calls over buffers that store a model give the model's answers
-pub record Alike (g : Geometry) (y : Run) (z : Played) : Type 0 where
-  pub answers : y .answers ≡ z .answers
-  pub register : y .register ≡ z .register
-  pub holds : Holds g (y .leaves) (z .leaves)
+cut-operations : (r : Register) → happenAll (discard ∷ []) r .operations ≡ map (losing (r .clock)) (r .operations)
+unfolding happenAll happen
+cut-operations r = refl
 
-pub run-plays : (g : Geometry) (cs : List Call) (s : Buffers) (r : Register) (x : Model) → Holds g s x → Alike g (run g cs s r) (plays g cs x r)
-unfolding run plays
-run-plays g [] s r x h = record { answers = refl; register = refl; holds = h }
-run-plays g (c ∷ cs) s r x h =
-    let st = step-holds g c s x h in
-    let y = outcome g c x .leaves in
-    let on : Alike g (run g cs (step g c s .leaves) (feed c (step g c s .gives) r)) (plays g cs y (feed c (outcome g c x .gives) r)) =
-    subst (λ (a : Answer). Alike g (run g cs (step g c s .leaves) (feed c a r)) (plays g cs y (feed c (outcome g c x .gives) r))) (sym (st .0))
-    (run-plays g cs (step g c s .leaves) (feed c (outcome g c x .gives) r) y (st .1)) in
-    record { answers = λ i. st .0 i ∷ on .answers i; register = on .register; holds = on .holds }
+perform-one : (e : Effect) (x : Model) → performAll (e ∷ []) x ≡ perform e x
+unfolding performAll
+perform-one e x = refl
 
--- in place of the last call, pushes of the members that wait, in issue order, and then a cut
-pub could : (g : Geometry) (s : Buffers) (v : Volume) → Mounted g s v → (cs : List Call) (set : ℕ → Bool) → Sendable (play g s v cs .register .operations) set → CouldHaveBeenSent g s v cs set
-could g s v m cs set k =
-    let l = play-led g s v m cs in
-    let r = play g s v cs .register in
-    let ops = r .operations in
-    let ready = members-ready ops set (numbers-rise 1 ops (l .good .kept .numbers)) k in
-    let all = pushes-cut g (members set ops) r (l .last) (l .good) ready in
-    let same = run-plays g (pushes (members set ops) ++ (cut ∷ [])) (play g s v cs .leaves) r (l .last) (l .holds) in
-    record {
-      accepted = subst AllAccepted (sym (same .answers)) (all .1 .accepted);
-      just = λ a mem.
-          just-members ops set k (all .0) a (subst (λ (o : List Acknowledged). Among a o) (ap (λ (z : Register). z .operations) (same .register) ∙ all .1 .operations) mem);
-    }
+one-more : (m : Moment) (r : Run) → m .answer .returned ≡ 0 → AllAccepted r → AllAccepted (record { moments = m ∷ r .moments; last = r .last })
+one-more m r e h n k = ⊎-elim (λ (z : n ≡ m). ap (λ (y : Moment). y .answer .returned) z ∙ e) (λ (z : List·Memᴰ n (r .moments)). h n z) (List·Memᴰ·cases-cons k)
 
--- a set that leaves out no waiting predecessor of a waiting member, directly or through others
-pub closed-sendable : (r : Register) (set : ℕ → Bool) → ((a : Acknowledged) → Among a (r .operations) → isSent a ≡ true → set (a .loss .sequence) ≡ true)
-    → ((a : Acknowledged) → Among a (r .operations) → isLost a ≡ true → set (a .loss .sequence) ≡ false)
-    → ((a b : Acknowledged) → Among a (r .operations) → Among b (r .operations) → isWaiting a ≡ true → isWaiting b ≡ true → Precedes r a b → set (b .loss .sequence) ≡ true → set (a .loss .sequence) ≡ true)
-    → Sendable (r .operations) set
-closed-sendable r set s l c =
-    record {
-      sent = s;
-      lost = l;
-      closed = λ w a mw ma ww wa e lt p. c w a mw ma ww wa (Precedes.direct (directly-of w a (record { earlier = lt; there = waiting-there w (a .issued) ww; ordered = p }))) e;
-    }
+abbrev pushes : List Record → List Call
+pushes l = map (λ (q : Record). push (q .sequence)) l ++ (cut ∷ [])
 
--- the numbers of the sent ones
-abbrev pub sentSet : List Acknowledged → ℕ → Bool
-sentSet ops q = numbered q (chosen isSent ops)
+-- all of a list's calls are accepted, and what the operations are then
+pub record Sends (g : Geometry) (s : State) (l : List Record) : Type 0 where
+  pub accepted : AllAccepted (run g (map (λ (q : Record). push (q .sequence)) l ++ (cut ∷ [])) s)
+  pub time : ℕ
+  pub operations : run g (map (λ (q : Record). push (q .sequence)) l ++ (cut ∷ [])) s .last .register .operations ≡ map (losing time) (map (sendingAll l) (s .register .operations))
 
-sent-sendable : (ops : List Acknowledged) → Rising (λ a. a .loss .sequence) ops → Sendable ops (sentSet ops)
-sent-sendable ops rise =
-    record {
-      sent = λ a m e. numbered-there (a .loss) (chosen isSent ops) (chosen-there isSent ops a m e);
-      lost = λ a m e. unsent a m (only (isWaiting a) (isSent a) e .1);
-      closed = λ w a mw ma ww wa e lt p. no-both (sentSet ops (a .loss .sequence)) e (unsent a ma (waits-not-sent a wa));
-    }
-  where
-    only : (s t : Bool) → not (s || t) ≡ true → (s ≡ false) × (t ≡ false)
-    only false false e = (refl, refl)
-    only false true e = let z : _≡_ {A = ℕ} 0 1 = cc in absurd (omega arith)
-    only true t e = let z : _≡_ {A = ℕ} 0 1 = cc in absurd (omega arith)
+module _ (g : Geometry) (v : Volume) where
+  -- the push of the first of a list that is ready
+  record Pushed (s : State) (x : Model) (q : Record) (l : List Record) : Type 0 where
+    accepted : step g (push (q .sequence)) (s .buffers) .gives .returned ≡ 0
+    operations : next g (push (q .sequence)) s .register .operations ≡ map (sending (q .sequence)) (s .register .operations)
+    ready : Ready (waitingOf (leavesOf g (push (q .sequence)) x .log .slots)) l
 
-    is-sent : (a : Acknowledged) → Among a ops → numbered (a .loss .sequence) (chosen isSent ops) ≡ true → isSent a ≡ true
-    is-sent a m e =
-        let r = numbered-in (a .loss .sequence) (chosen isSent ops) e in
-        let c = chosen-in isSent ops (r .0) (r .1) in
-        subst (λ (z : Acknowledged). isSent z ≡ true) (rising-unique lossOf ops rise (c .0) a (c .1) m (ap (λ (z : Record). z .sequence) (c .3) ∙ r .2)) (c .2)
+  push-ready : (s : State) (x : Model) → Led g v s x → (q : Record) (l : List Record) → Ready (waitingOf (x .log .slots)) (q ∷ l) → Pushed s x q l
+  unfolding leavesOf
+  push-ready s x led q l d =
+      let n = q .sequence in
+      let f = first-sent g x q l (led .good .kept .sound) d in
+      let fit = good-applies g (s .register) x (led .good) q (d .wait q (List·Memᴰ·head refl)) (f .free) in
+      let yes : answerOf g (push n) x .returned ≡ 0 = ap (λ (a : Answer). a .returned) (push-is g n x ∙ push-passes n x q (f .found) (f .free) fit) in
+      let es = push-effects g n x yes in
+      record {
+        accepted = ap (λ (a : Answer). a .returned) (step-holds g (push n) (s .buffers) x (led .holds) .gives) ∙ yes;
+        operations =
+            ap (λ (r : Register). r .operations) (led-fed g v s x led (push n)) ∙ ap (λ (k : List Effect). happenAll k (s .register) .operations) es ∙ send-operations n (s .register);
+        ready = subst (λ (y : Model). Ready (waitingOf (y .log .slots)) l) (sym (ap (λ (k : List Effect). performAll k x) es ∙ perform-one (send n) x)) (f .ready);
+      }
 
-    unsent : (a : Acknowledged) → Among a ops → isSent a ≡ false → numbered (a .loss .sequence) (chosen isSent ops) ≡ false
-    unsent a m e = go (numbered (a .loss .sequence) (chosen isSent ops)) refl
-      where
-        go : (b : Bool) → numbered (a .loss .sequence) (chosen isSent ops) ≡ b → b ≡ false
-        go true k = no-both (isSent a) (is-sent a m k) e
-        go false k = refl
+  pub pushes-sent : (l : List Record) (s : State) (x : Model) → Led g v s x → Ready (waitingOf (x .log .slots)) l → Sends g s l
+  unfolding run
+  pushes-sent [] s x led d =
+      let fed = ap (λ (r : Register). r .operations) (led-fed g v s x led cut) ∙ ap (λ (k : List Effect). happenAll k (s .register) .operations) (cut-effects g x) ∙ cut-operations (s .register) in
+      record {
+        accepted =
+            one-more (record { call = cut; before = s; answer = step g cut (s .buffers) .gives }) (run g [] (next g cut s))
+            (ap (λ (a : Answer). a .returned) (step-holds g cut (s .buffers) x (led .holds) .gives) ∙ cut-is g x) (λ m h. absurd (List·Memᴰ·not-nil h));
+        time = s .register .clock;
+        operations = fed ∙ ap (map (losing (s .register .clock))) (sym (no-map (s .register .operations)));
+      }
+  pushes-sent (q ∷ l) s x led d =
+      let c = push (q .sequence) in
+      let p = push-ready s x led q l d in
+      let rest = pushes-sent l (next g c s) (leavesOf g c x) (next-led g v s x led c) (p .ready) in
+      record {
+        accepted = one-more (record { call = c; before = s; answer = step g c (s .buffers) .gives }) (run g (pushes l) (next g c s)) (p .accepted) (rest .accepted);
+        time = rest .time;
+        operations = rest .operations ∙ ap (λ (k : List Acknowledged). map (losing (rest .time)) (map (sendingAll l) k)) (p .operations) ∙ ap (map (losing (rest .time))) (same-map l q (s .register .operations));
+      }
 
--- what was sent could have been sent
-pub sent-could : (g : Geometry) (s : Buffers) (v : Volume) → Mounted g s v → (cs : List Call) → CouldHaveBeenSent g s v cs (sentSet (play g s v cs .register .operations))
-sent-could g s v m cs =
-    let l = play-led g s v m cs in
-    let ops = play g s v cs .register .operations in
-    could g s v m cs (sentSet ops) (sent-sendable ops (numbers-rise 1 ops (l .good .kept .numbers)))
+  -- every set that is closed in a later register could have been sent here
+  pub could : (s : State) (x : Model) → Led g v s x → (after : Register) → Since (s .register) after → (set : ℕ → Bool) → ClosedSet (s .register) after set → CouldHaveBeenSent g s set
+  could s x led after since set closed =
+      record {
+        accepted = sends .accepted;
+        just = λ a h.
+            let m₁ = map-in lossOf (losing (sends .time)) (map (sendingAll l) ops) a (subst (λ (k : List Acknowledged). Among a k) (sends .operations) h) in
+            let m₂ = map-in lossOf (sendingAll l) ops (m₁ .0) (m₁ .1) in
+            let b = m₂ .0 in
+            let loss : a .loss ≡ b .loss = ap lossOf (m₁ .2) ∙ lose-loss (sends .time) (m₁ .0) ∙ ap lossOf (m₂ .2) ∙ all-loss l b in
+            ap isSent (m₁ .2) ∙ lose-sent (sends .time) (m₁ .0) ∙ ap isSent (m₂ .2) ∙ all-sent l b ∙ member b (m₂ .1) ∙ ap (λ (r : Record). set (r .sequence)) (sym loss);
+      }
+    where
+      ops : List Acknowledged
+      ops = s .register .operations
+
+      l : List Record
+      l = chosen (λ a. set (a .loss .sequence) && isWaiting a) (s .register .operations)
+
+      rise : Rising (λ a. a .loss .sequence) (s .register .operations)
+      rise = numbers-rise 1 (s .register .operations) (led .good .kept .numbers)
+
+      sends : Sends g s (chosen (λ a. set (a .loss .sequence) && isWaiting a) (s .register .operations))
+      sends =
+          pushes-sent _ s x led
+          (subst (λ (w : List Record). Ready w (chosen (λ a. set (a .loss .sequence) && isWaiting a) (s .register .operations))) (waiting-same g (s .register) x (led .good .kept)) (closed-ready (s .register) after since (led .good .timed) rise set closed))
+
+      -- who has the number of a member is that member
+      own : (b : Acknowledged) → Among b ops → hasNumber (b .loss .sequence) l ≡ true → (set (b .loss .sequence) && isWaiting b) ≡ true
+      own b m e =
+          let f = any-in (λ (q : Record). eqb (b .loss .sequence) (q .sequence)) l e in
+          let c = chosen-in (λ a. set (a .loss .sequence) && isWaiting a) ops (f .0) (f .1) in
+          let z : b ≡ c .0 = rising-unique lossOf ops rise b (c .0) m (c .1) (eqb-true _ _ (f .2) ∙ ap (λ (r : Record). r .sequence) (sym (c .3))) in
+          subst (λ (a : Acknowledged). (set (a .loss .sequence) && isWaiting a) ≡ true) (sym z) (c .2)
+
+      there : (b : Acknowledged) → Among b ops → isWaiting b ≡ true → set (b .loss .sequence) ≡ true → hasNumber (b .loss .sequence) l ≡ true
+      there b m w e =
+          in-any (λ q. eqb (b .loss .sequence) (q .sequence)) l
+          (chosen-there (λ a. set (a .loss .sequence) && isWaiting a) ops b m (λ i. e i && w i)) (eq-eqb (b .loss .sequence) (b .loss .sequence) refl)
+
+      none : (b : Acknowledged) → Among b ops → (set (b .loss .sequence) && isWaiting b) ≡ false → hasNumber (b .loss .sequence) l ≡ false
+      none b m e = go (hasNumber (b .loss .sequence) l) refl
+        where
+          go : (t : Bool) → hasNumber (b .loss .sequence) l ≡ t → hasNumber (b .loss .sequence) l ≡ false
+          go true h = no-both (set (b .loss .sequence) && isWaiting b) (own b m h) e
+          go false h = h
+
+      and-none : (t : Bool) → (t && false) ≡ false
+      and-none true = refl
+      and-none false = refl
+
+      lost-one : (b : Acknowledged) → isSent b ≡ false → isWaiting b ≡ false → isLost b ≡ true
+      lost-one b e w = λ i. not (w i || e i)
+
+      member : (b : Acknowledged) → Among b ops → (isSent b || hasNumber (b .loss .sequence) l) ≡ set (b .loss .sequence)
+      member b m = go (fate-is b)
+        where
+          choose : (t : Bool) → set (b .loss .sequence) ≡ t → isWaiting b ≡ true → hasNumber (b .loss .sequence) l ≡ set (b .loss .sequence)
+          choose true e w = there b m w e ∙ sym e
+          choose false e w = none b m (λ i. e i && w i) ∙ sym e
+
+          go : FateIs b → (isSent b || hasNumber (b .loss .sequence) l) ≡ set (b .loss .sequence)
+          go (waits w e) = ap (λ (t : Bool). t || hasNumber (b .loss .sequence) l) e ∙ choose (set (b .loss .sequence)) refl w
+          go (went e w) = ap (λ (t : Bool). t || hasNumber (b .loss .sequence) l) e ∙ sym (closed-sent (s .register) after since set closed b m e)
+          go (gone u f e w) =
+              (λ i. e i || none b m (ap (λ (t : Bool). set (b .loss .sequence) && t) w ∙ and-none (set (b .loss .sequence))) i) ∙ sym (closed .added b m (lost-one b e w))

@@ -1,29 +1,34 @@
--- What programs have taken of their losses, over each change of the operations and of the log.
+-- What programs have taken of their losses, over each effect.
 use Prim.Native.Nat.{ℕ}
-use native.Mathlib.Omega.{arith}
 use mathlib.Core.Path.{_≡_, refl, sym, ap, _∙_, subst}
 use mathlib.Core.Logic.{⊎-elim}
-use mathlib.Core.List.{List, [], _∷_, _++_, map, List·Memᴰ, List·Memᴰ·head, List·Memᴰ·tail, List·Memᴰ·not-nil, List·Memᴰ·cases-cons, List·Memᴰ·append-cases, List·Memᴰ·eq-of-singleton, append-assoc}
-use mathlib.Core.Bool.{Bool, true, false, not, _&&_, _||_, cond}
-use mathlib.Core.Option.{some}
+use mathlib.Core.List.{List, [], _∷_, _++_, map, List·Memᴰ, List·Memᴰ·head, List·Memᴰ·tail, List·Memᴰ·not-nil, List·Memᴰ·cases-cons, List·Memᴰ·append-cases, List·Memᴰ·eq-of-singleton, append-nil, append-assoc}
+use mathlib.Core.Bool.{Bool, true, false, not, _&&_, _||_, cond, and-eq-true-iff}
+use mathlib.Core.Option.{Option, some}
 use lib.Dec.{eqb}
 use borrow.Author.Tests.{eqb-true, eqb-false}
 use Rattle.records.specs.Operation.{Record}
 use Rattle.log.specs.Slot.{Slot}
-use Rattle.log.specs.Change.{waitingOf, removed, discarded, isLossOf, earliest, lossesOf}
-use Rattle.log.specs.ChangeLaws.{Ordered}
-use Rattle.log.specs.OrderLaws.{Rising, or-cases}
+use Rattle.log.specs.SlotLaws.{formed-inv}
+use Rattle.log.specs.Change
+use Rattle.log.specs.Change.{waitingOf, isSequence, removed, discarded, isLossOf, earliest, lossesOf}
+use Rattle.log.specs.ChangeLaws.{Ordered, rising-inv, at-waiting}
+use Rattle.log.specs.OrderLaws.{Rising}
 use Rattle.log.specs.PartitionLaws.{picked}
-use Rattle.log.specs.LossLaws.{isOf, taken-own, taken-other, discard-lost}
-use Rattle.register.specs.Register.{Acknowledged, Fate, waiting, sent, lost, isWaiting, isSent, isLost, chosen, sending, losing, numbered, fated}
-use Rattle.register.specs.Kept.{lossOf}
+use Rattle.log.specs.LossLaws.{isOf, noted-lost, issue-lost, sent-lost, taken-own, taken-other, discard-lost}
+use Rattle.session.specs.Call.{Geometry}
+use Rattle.session.specs.Model.{Model}
+use Rattle.session.specs.Effect.{Effect, note, issue, send, discard, take, renew, sentFound, perform, performAll}
+use Rattle.session.specs.PossibleLaws.{Possible, AllPossible}
+use Rattle.register.specs.Register.{Register, Acknowledged, acknowledged, isWaiting, isSent, isLost, chosen, sending, losing, happen, happenAll}
+use Rattle.register.specs.Takes.{lostBy}
+use Rattle.register.specs.Claim.{lossOf}
+use Rattle.register.specs.FateLaws.{Among, no-both, waits-not-sent, send-loss, send-lost, send-waiting, lose-loss, lose-waiting, lose-lost}
+use Rattle.register.specs.InvariantLaws.{Good}
 use Rattle.register.specs.PickLaws.{map-in}
 use Rattle.register.specs.SendLaws.{rising-unique}
-use Rattle.register.specs.KeptLaws.{send-loss, waits-not-sent, lose-loss, lose-waiting, numbered-in}
-use Rattle.register.specs.TimeLaws.{Among, no-both}
-use Rattle.register.specs.SyncLaws.{Waits}
-use Rattle.register.specs.Takes.{lostBy}
-use Rattle.register.specs.Fetched.{LostFirst, Fetched}
+use Rattle.register.specs.OperationLaws.{numbers-rise, Waits, waits-of}
+use Rattle.register.specs.FetchedLaws.{LostFirst, Fetched, oneOrNone, fetches, takenBy}
 
 -- what is chosen of a list whose elements change but for their records
 pub chosen-map : (f : Acknowledged → Bool) (h : Acknowledged → Acknowledged) → ((a : Acknowledged) → lossOf (h a) ≡ lossOf a) → (l : List Acknowledged) → chosen f (map h l) ≡ chosen (λ a. f (h a)) l
@@ -37,65 +42,33 @@ unfolding chosen
 chosen-same f h [] e = refl
 chosen-same f h (a ∷ l) e = λ i. cond (e a (List·Memᴰ·head refl) i) (a .loss ∷ chosen-same f h l (λ b m. e b (List·Memᴰ·tail m)) i) (chosen-same f h l (λ b m. e b (List·Memᴰ·tail m)) i)
 
--- what is chosen is the record of one that passes
-pub chosen-in : (f : Acknowledged → Bool) (l : List Acknowledged) (q : Record) → List·Memᴰ q (chosen f l) → (a : Acknowledged) × Among a l × (f a ≡ true) × (a .loss ≡ q)
+-- one more that does not pass
+pub chosen-end : (f : Acknowledged → Bool) (l : List Acknowledged) (a : Acknowledged) → f a ≡ false → chosen f (l ++ (a ∷ [])) ≡ chosen f l
 unfolding chosen
-chosen-in f [] q m = absurd (List·Memᴰ·not-nil m)
-chosen-in f (b ∷ l) q m = go (f b) refl m (chosen-in f l q)
-  where
-    Found : List Acknowledged → Type 0
-    Found k = (a : Acknowledged) × Among a k × (f a ≡ true) × (a .loss ≡ q)
+chosen-end f [] a e = ap (λ (b : Bool). cond b (a .loss ∷ []) []) e
+chosen-end f (c ∷ l) a e = ap (λ (x : List Record). cond (f c) (c .loss ∷ x) x) (chosen-end f l a e)
 
-    later : Found l → Found (b ∷ l)
-    later x = (x .0, List·Memᴰ·tail (x .1), x .2, x .3)
-
-    go : (t : Bool) → f b ≡ t → List·Memᴰ q (cond t (b .loss ∷ chosen f l) (chosen f l)) → (List·Memᴰ q (chosen f l) → Found l) → Found (b ∷ l)
-    go true e k down = ⊎-elim (λ (z : q ≡ b .loss). (b, List·Memᴰ·head refl, e, sym z)) (λ (z : List·Memᴰ q (chosen f l)). later (down z)) (List·Memᴰ·cases-cons k)
-    go false e k down = later (down k)
-
--- who has the number of one of some waiting operations is that one
-own-waits : (ops : List Acknowledged) → Rising (λ a. a .loss .sequence) ops → (l : List Record) → ((q : Record) → List·Memᴰ q l → Waits ops q)
-    → (a : Acknowledged) → Among a ops → numbered (a .loss .sequence) l ≡ true → isWaiting a ≡ true
-own-waits ops rise l w a m e =
-    let x = numbered-in (a .loss .sequence) l e in
-    let y = w (x .0) (x .1) in
-    subst (λ (c : Acknowledged). isWaiting c ≡ true) (rising-unique lossOf ops rise (y .who) a (y .among) m (ap (λ (r : Record). r .sequence) (y .loss) ∙ x .2)) (y .waiting)
+-- who has the number of a waiting operation is that one
+pub own-waits : (ops : List Acknowledged) → Rising (λ a. a .loss .sequence) ops → (q : ℕ) (r : Record) → Waits ops r → r .sequence ≡ q
+    → (a : Acknowledged) → Among a ops → eqb (a .loss .sequence) q ≡ true → isWaiting a ≡ true
+own-waits ops rise q r w s a m e =
+    subst (λ (c : Acknowledged). isWaiting c ≡ true)
+    (rising-unique lossOf ops rise (w .who) a (w .among) m (ap (λ (z : Record). z .sequence) (w .loss) ∙ s ∙ sym (eqb-true _ _ e))) (w .waiting)
 
 not-lost : (a : Acknowledged) → isWaiting a ≡ true → isLost a ≡ false
 not-lost a e = ap (λ (b : Bool). not (b || isSent a)) e
 
--- sends of waiting ones lose none and find none
-send-lost : (l : List Record) (a : Acknowledged) → (numbered (a .loss .sequence) l ≡ true → isWaiting a ≡ true) → isLost (sending l a) ≡ isLost a
-send-lost l a w = go (numbered (a .loss .sequence) l) refl
-  where
-    go : (t : Bool) → numbered (a .loss .sequence) l ≡ t → isLost (cond t (fated sent a) a) ≡ isLost a
-    go true e = sym (not-lost a (w e))
-    go false e = refl
-
-send-still : (l : List Record) (a : Acknowledged) → isWaiting (sending l a) ≡ true → isWaiting a ≡ true
-send-still l a = go (numbered (a .loss .sequence) l)
-  where
-    go : (t : Bool) → isWaiting (cond t (fated sent a) a) ≡ true → isWaiting a ≡ true
-    go true e = let z : _≡_ {A = ℕ} 0 1 = cc in absurd (omega arith)
-    go false e = e
-
--- a cut loses whatever was not sent
-lose-lost : (t : ℕ) (a : Acknowledged) → isLost (losing t a) ≡ not (isSent a)
-lose-lost t a = go (a .fate)
-  where
-    go : (f : Fate) → isLost (losing t (fated f a)) ≡ not (isSent (fated f a))
-    go waiting = refl
-    go sent = refl
-    go (lost u) = refl
+send-still : (q : ℕ) (a : Acknowledged) → isWaiting (sending q a) ≡ true → isWaiting a ≡ true
+send-still q a e = and-eq-true-iff (isWaiting a) (not (eqb (a .loss .sequence) q)) .0 (sym (send-waiting q a) ∙ e) .0
 
 -- the order of the lost and the waiting ones, over each change
-first-send : (l : List Record) (ops : List Acknowledged) → ((a : Acknowledged) → Among a ops → numbered (a .loss .sequence) l ≡ true → isWaiting a ≡ true) → LostFirst ops → LostFirst (map (sending l) ops)
-first-send l [] w o = tt
-first-send l (a ∷ ops) w o = (
+first-send : (q : ℕ) (ops : List Acknowledged) → ((a : Acknowledged) → Among a ops → eqb (a .loss .sequence) q ≡ true → isWaiting a ≡ true) → LostFirst ops → LostFirst (map (sending q) ops)
+first-send q [] w o = tt
+first-send q (a ∷ ops) w o = (
   (λ e b m.
-      let x = map-in lossOf (sending l) ops b m in
-      ap isLost (x .2) ∙ send-lost l (x .0) (w (x .0) (List·Memᴰ·tail (x .1))) ∙ o .0 (send-still l a e) (x .0) (x .1)),
-  first-send l ops (λ b m. w b (List·Memᴰ·tail m)) (o .1),
+      let x = map-in lossOf (sending q) ops b m in
+      ap isLost (x .2) ∙ send-lost q (x .0) (w (x .0) (List·Memᴰ·tail (x .1))) ∙ o .0 (send-still q a e) (x .0) (x .1)),
+  first-send q ops (λ b m. w b (List·Memᴰ·tail m)) (o .1),
 )
 
 first-cut : (t : ℕ) (ops : List Acknowledged) → LostFirst (map (losing t) ops)
@@ -110,7 +83,9 @@ first-end (c ∷ ops) a e o =
 none-lost : (p : ℕ) (l : List Acknowledged) → ((b : Acknowledged) → Among b l → isLost b ≡ false) → chosen (lostBy p) l ≡ []
 unfolding chosen
 none-lost p [] h = refl
-none-lost p (a ∷ l) h = ap (λ (b : Bool). cond (b && eqb (a .loss .program) p) (a .loss ∷ chosen (lostBy p) l) (chosen (lostBy p) l)) (h a (List·Memᴰ·head refl)) ∙ none-lost p l (λ b m. h b (List·Memᴰ·tail m))
+none-lost p (a ∷ l) h =
+    ap (λ (b : Bool). cond (b && eqb (a .loss .program) p) (a .loss ∷ chosen (lostBy p) l) (chosen (lostBy p) l)) (h a (List·Memᴰ·head refl))
+    ∙ none-lost p l (λ b m. h b (List·Memᴰ·tail m))
 
 -- a cut puts a program's waiting operations behind its lost ones
 pub cut-lost : (p t : ℕ) (ops : List Acknowledged) → LostFirst ops → chosen (lostBy p) (map (losing t) ops) ≡ chosen (lostBy p) ops ++ picked (isOf p) (map lossOf (picked isWaiting ops))
@@ -139,15 +114,6 @@ cut-lost p t (a ∷ ops) o = head ∙ go (isWaiting a) (isSent a) refl refl (cut
         both true = ap (λ (x : List Record). a .loss ∷ x) ih
         both false = ih
 
-chosen-end : (f : Acknowledged → Bool) (l : List Acknowledged) (a : Acknowledged) → f a ≡ false → chosen f (l ++ (a ∷ [])) ≡ chosen f l
-unfolding chosen
-chosen-end f [] a e = ap (λ (b : Bool). cond b (a .loss ∷ []) []) e
-chosen-end f (c ∷ l) a e = ap (λ (x : List Record). cond (f c) (c .loss ∷ x) x) (chosen-end f l a e)
-
--- one more loss that a program has taken
-abbrev pub adding : ℕ → Record → (ℕ → List Record) → ℕ → List Record
-adding p q done n = cond (eqb p n) (done n ++ (q ∷ [])) (done n)
-
 module _ (ops : List Acknowledged) (slots : List Slot) (done : ℕ → List Record) (k : Fetched ops slots done) where
   -- a change of the log that keeps the losses: a call is noted, an operation issued or sent, a mark cleared
   pub fetched-log : (more : List Slot) → ((p : ℕ) → lossesOf p more ≡ lossesOf p slots) → Fetched ops more done
@@ -156,15 +122,14 @@ module _ (ops : List Acknowledged) (slots : List Slot) (done : ℕ → List Reco
   pub fetched-same : (what : ℕ → List Record) → ((p : ℕ) → what p ≡ done p) → Fetched ops slots what
   fetched-same what e = record { order = k .order; losses = λ p. k .losses p ∙ ap (λ (x : List Record). x ++ lossesOf p slots) (sym (e p)) }
 
-  -- sends of waiting operations
-  pub fetched-sends : Rising (λ a. a .loss .sequence) ops → (l : List Record) → ((q : Record) → List·Memᴰ q l → Waits ops q) → Fetched (map (sending l) ops) slots done
-  fetched-sends rise l w =
-      let own = own-waits ops rise l w in
+  -- the send of a number that waiting operations only have
+  pub fetched-send : (q : ℕ) → ((a : Acknowledged) → Among a ops → eqb (a .loss .sequence) q ≡ true → isWaiting a ≡ true) → Fetched (map (sending q) ops) slots done
+  fetched-send q own =
       record {
-        order = first-send l ops own (k .order);
+        order = first-send q ops own (k .order);
         losses = λ p.
-            chosen-map (lostBy p) (sending l) (send-loss l) ops
-            ∙ chosen-same (λ a. lostBy p (sending l a)) (lostBy p) ops (λ a m i. send-lost l a (own a m) i && eqb (send-loss l a i .program) p)
+            chosen-map (lostBy p) (sending q) (send-loss q) ops
+            ∙ chosen-same (λ a. lostBy p (sending q a)) (lostBy p) ops (λ a m i. send-lost q a (own a m) i && eqb (send-loss q a i .program) p)
             ∙ k .losses p;
       }
 
@@ -187,11 +152,82 @@ module _ (ops : List Acknowledged) (slots : List Slot) (done : ℕ → List Reco
       }
 
   -- a take
-  pub fetched-take : (p : ℕ) (q : Record) → earliest (isLossOf p) slots ≡ some q → Fetched ops (removed (isLossOf p) slots) (adding p q done)
+  pub fetched-take : (p : ℕ) (q : Record) → earliest (isLossOf p) slots ≡ some q → Fetched ops (removed (isLossOf p) slots) (λ n. done n ++ cond (eqb p n) (q ∷ []) [])
   fetched-take p q e = record { order = k .order; losses = λ n. go n (eqb p n) refl }
     where
-      go : (n : ℕ) (b : Bool) → eqb p n ≡ b → chosen (lostBy n) ops ≡ cond b (done n ++ (q ∷ [])) (done n) ++ lossesOf n (removed (isLossOf p) slots)
+      go : (n : ℕ) (b : Bool) → eqb p n ≡ b → chosen (lostBy n) ops ≡ (done n ++ cond b (q ∷ []) []) ++ lossesOf n (removed (isLossOf p) slots)
       go n true z =
           k .losses n ∙ ap (λ (x : List Record). done n ++ x) (subst (λ (m : ℕ). lossesOf m slots ≡ q ∷ lossesOf m (removed (isLossOf p) slots)) (eqb-true p n z) (taken-own p slots q e))
           ∙ sym (append-assoc (done n) (q ∷ []) (lossesOf n (removed (isLossOf p) slots)))
-      go n false z = k .losses n ∙ ap (λ (x : List Record). done n ++ x) (sym (taken-other p n (eqb-false p n z) slots))
+      go n false z =
+          k .losses n ∙ ap (λ (x : List Record). done n ++ x) (sym (taken-other p n (eqb-false p n z) slots))
+          ∙ ap (λ (x : List Record). x ++ lossesOf n (removed (isLossOf p) slots)) (sym (append-nil (done n)))
+
+-- what one effect fetches
+pub fetched-one : (p : ℕ) (x : Model) (e : Effect) → takenBy p x (e ∷ []) ≡ fetches p x e
+unfolding takenBy
+fetched-one p x e = append-nil (fetches p x e)
+
+module _ (g : Geometry) (r : Register) (x : Model) (k : Good g r x) (done : ℕ → List Record) (f : Fetched (r .operations) (x .log .slots) done) where
+  abbrev more : Effect → ℕ → List Record
+  more e p = done p ++ takenBy p x (e ∷ [])
+
+  -- an effect that fetches nothing
+  none-fetched : (ops : List Acknowledged) (slots : List Slot) (e : Effect) → ((p : ℕ) → fetches p x e ≡ []) → Fetched ops slots done → Fetched ops slots (more e)
+  none-fetched ops slots e h d = fetched-same ops slots done d (more e) (λ p. ap (λ (l : List Record). done p ++ l) (fetched-one p x e ∙ h p) ∙ append-nil (done p))
+
+  -- over one effect
+  pub effect-fetched : (e : Effect) → Possible g x e → Fetched (happen e r .operations) (perform e x .log .slots) (λ p. done p ++ takenBy p x (e ∷ []))
+  unfolding happen perform Change.discard
+  effect-fetched (note p ops) h =
+      none-fetched (r .operations) (perform (note p ops) x .log .slots) (note p ops) (λ q. refl)
+      (fetched-log (r .operations) (x .log .slots) done f (perform (note p ops) x .log .slots) (λ q. noted-lost q p ops (x .log .slots)))
+  effect-fetched (issue p o) h =
+      let a = acknowledged p o r in
+      let ops = r .operations ++ (a ∷ []) in
+      let slots = Change.issue p o (x .log) .slots in
+      let more = fetched-issue (r .operations) (x .log .slots) done f a refl in
+      none-fetched ops slots (issue p o) (λ q. refl) (fetched-log ops (x .log .slots) done more slots (λ q. issue-lost q p o (x .log)))
+  effect-fetched (send q) h =
+      let rec = h .0 in
+      let ops = map (sending q) (r .operations) in
+      let slots = removed (isSequence (rec .sequence)) (x .log .slots) in
+      let at = at-waiting q (x .log) rec (h .1 .found) in
+      let waits = waits-of (r .operations) rec (subst (λ (l : List Record). List·Memᴰ rec l) (k .kept .waiting) (at .0)) in
+      let own = own-waits (r .operations) (numbers-rise 1 (r .operations) (k .kept .numbers)) q rec waits (at .1) in
+      let gone = fetched-send (r .operations) (x .log .slots) done f q own in
+      none-fetched ops (perform (send q) x .log .slots) (send q) (λ p. refl)
+      (subst (λ (y : Model). Fetched ops (y .log .slots) done) (ap (λ (o : Option Record). sentFound o x) (sym (h .1 .found)))
+      (fetched-log ops (x .log .slots) done gone slots (λ p. sent-lost p (rec .sequence) (x .log .slots))))
+  effect-fetched discard h =
+      let order = rising-inv (x .log .next) (x .log .slots) (formed-inv (g .objects) (g .blocks) (g .capacity) (x .log) (k .kept .sound .log) .order) in
+      none-fetched (map (losing (r .clock)) (r .operations)) (map discarded (x .log .slots)) discard (λ q. refl)
+      (fetched-cut (r .operations) (x .log .slots) done f (r .clock) (x .log .next) order (k .kept .waiting))
+  effect-fetched (take p) h =
+      let slots = removed (isLossOf p) (x .log .slots) in
+      fetched-same (r .operations) slots (λ n. done n ++ cond (eqb p n) (h .0 ∷ []) []) (fetched-take (r .operations) (x .log .slots) done f p (h .0) (h .1)) (more (take p))
+      (λ n. ap (λ (l : List Record). done n ++ l) (fetched-one n x (take p) ∙ ap (λ (o : Option Record). cond (eqb p n) (oneOrNone o) []) (h .1)))
+  effect-fetched (renew p) h = none-fetched (r .operations) (x .log .slots) (renew p) (λ q. refl) f
+
+-- what effects fetch, from the models in between
+taken-first : (p : ℕ) (x : Model) (e : Effect) (es : List Effect) → takenBy p x (e ∷ []) ++ takenBy p (perform e x) es ≡ takenBy p x (e ∷ es)
+unfolding takenBy
+taken-first p x e es = ap (λ (l : List Record). l ++ takenBy p (perform e x) es) (append-nil (fetches p x e))
+
+-- over effects one after the other, of which each keeps what every list of calls keeps
+pub fetched-all : (g : Geometry) (es : List Effect) (r : Register) (x : Model) → Good g r x → (done : ℕ → List Record) → Fetched (r .operations) (x .log .slots) done → AllPossible g x es
+    → ((s : Register) (y : Model) (e : Effect) → Good g s y → Possible g y e → Good g (happen e s) (perform e y))
+    → Fetched (happenAll es r .operations) (performAll es x .log .slots) (λ p. done p ++ takenBy p x es)
+unfolding happenAll performAll takenBy
+fetched-all g [] r x k done f a on = fetched-same (r .operations) (x .log .slots) done f (λ p. done p ++ []) (λ p. append-nil (done p))
+fetched-all g (e ∷ es) r x k done f a on =
+    let first : ℕ → List Record = λ p. done p ++ takenBy p x (e ∷ []) in
+    let rest = fetched-all g es (happen e r) (perform e x) (on r x e k (a .0)) first (effect-fetched g r x k done f e (a .0)) (a .1) on in
+    fetched-same (happenAll es (happen e r) .operations) (performAll es (perform e x) .log .slots) (λ p. first p ++ takenBy p (perform e x) es) rest
+    (λ p. done p ++ takenBy p x (e ∷ es))
+    (λ p. sym (append-assoc (done p) (takenBy p x (e ∷ [])) (takenBy p (perform e x) es) ∙ ap (λ (l : List Record). done p ++ l) (taken-first p x e es)))
+
+-- an accepted mount leaves nothing lost
+pub opened-fetched : Fetched [] [] (λ p. [])
+unfolding chosen lossesOf
+opened-fetched = record { order = tt; losses = λ p. refl }

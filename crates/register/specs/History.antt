@@ -1,16 +1,30 @@
 -- Document 01, "Order and dependence", told from the history of calls: predecessors, dependence and marks.
-use Prim.Native.Nat.{ℕ, _<_, _≤_}
+use Prim.Native.Nat.{ℕ, _<_}
 use mathlib.Core.Path.{_≡_}
-use mathlib.Core.Logic.{_⊎_}
-use mathlib.Core.List.{List, List·Memᴰ}
+use mathlib.Core.List.{List·Memᴰ}
 use mathlib.Core.Bool.{Bool, true, false, not, _&&_}
 use lib.Dec.{ltb}
 use Rattle.records.specs.Operation.{operands}
-use Rattle.log.specs.Order.{shares, touches}
-use Rattle.register.specs.Register.{Acknowledged, Touch, Renewal, Register, Fate, lost, goneBy, lostBefore, directly, isLost}
+use Rattle.log.specs.Order.{shares, touches, directlyPrecedes}
+use Rattle.register.specs.Register.{Acknowledged, Touch, Renewal, Register, Fate, waiting, sent, lost}
 
 abbrev pub Is : Acknowledged → Register → Type 0
 Is a r = List·Memᴰ a (r .operations)
+
+-- "One lost before B was issued neither touches nor precedes B."
+abbrev pub goneBy : ℕ → Fate → Bool
+goneBy time waiting = false
+goneBy time sent = false
+goneBy time (lost t) = ltb t time
+
+abbrev pub lostBefore : Acknowledged → Acknowledged → Bool
+lostBefore a b = goneBy (b .issued) (a .fate)
+
+-- "A directly precedes B", of two acknowledged operations
+unfoldable pub directly : Acknowledged → Acknowledged → Bool
+directly a b =
+    ltb (a .loss .sequence) (b .loss .sequence)
+    && (not (lostBefore a b) && directlyPrecedes (a .loss .operation) (b .loss .operation))
 
 -- "An operation precedes another also through a third and further ones. One lost before B was issued neither touches nor
 -- precedes B."

@@ -1,126 +1,58 @@
--- What is kept, over one send and over a cut.
-use Prim.Native.Nat.{ℕ, zero, suc, _+_, _≤_, _<_}
+-- What is kept tells the server and the view from the register; and it is kept over each effect.
+use Prim.Native.Nat.{ℕ, _+_, _<_}
 use native.Mathlib.Omega.{arith}
 use mathlib.Core.Path.{_≡_, refl, sym, ap, _∙_, subst}
-use mathlib.Core.Logic.{_⊎_, inl, inr, ⊎-elim}
-use mathlib.Core.List.{List, [], _∷_, _++_, map, List·Memᴰ, List·Memᴰ·head, List·Memᴰ·tail, List·Memᴰ·not-nil, List·Memᴰ·cases-cons, append-nil, append-assoc, Memᴰ·append-right}
-use mathlib.Core.Bool.{Bool, true, false, not, _&&_, _||_, cond, or-false}
-use mathlib.Core.Option.{Option, none, some}
-use lib.ListN.{length}
+use mathlib.Core.Logic.{⊎-elim}
+use mathlib.Core.List.{List, [], _∷_, _++_, map, List·Memᴰ, List·Memᴰ·head, List·Memᴰ·tail, List·Memᴰ·append-cases, List·Memᴰ·eq-of-singleton, append-nil, Memᴰ·append-right}
+use mathlib.Core.Bool.{Bool, true, false, not, _&&_, cond}
+use mathlib.Core.Option.{some}
+use lib.ListN.{length-append}
 use lib.Dec.{eqb}
-use borrow.Author.Tests.{eqb-true, eqb-false, eq-eqb, ne-eqb}
-use Rattle.records.specs.Operation.{Record}
-use Rattle.volume.specs.Volume.{Volume}
-use Rattle.volume.specs.Apply.{applies, apply}
-use Rattle.volume.specs.ApplyLaws.{apply-good}
-use Rattle.log.specs.Order.{directlyPrecedes}
-use Rattle.log.specs.OrderLaws.{Rising, or-cases}
+use borrow.Author.Tests.{eqb-true, eq-eqb, ne-eqb, lt-ltb}
+use Rattle.records.specs.Operation.{Operation, Record}
+use Rattle.records.specs.Fields.{valid, fits}
+use Rattle.search.specs.Volume.{Volume}
+use Rattle.applies.specs.Apply.{applies, apply}
+use Rattle.log.specs.Order.{directlyPrecedes, any, before}
+use Rattle.log.specs.OrderLaws.{Rising, InOrder, or-cases, any-none}
 use Rattle.log.specs.SwapLaws.{swap}
+use Rattle.log.specs.SlotLaws.{formed-inv}
 use Rattle.log.specs.Change
-use Rattle.log.specs.Change.{waitingOf, waitingAt}
-use Rattle.log.specs.ChangeLaws.{sent-good, sent-waiting, waiting-at, waiting-in-order}
-use Rattle.log.specs.PartitionLaws.{applyAll, ApplyInTurn, AllFit, picked, picked-yes, picked-no, picked-in, Closed, Swap}
+use Rattle.log.specs.Change.{waitingOf}
+use Rattle.log.specs.ChangeLaws.{sent-waiting, waiting-at, waiting-in-order, discard-waiting, issue-waiting}
+use Rattle.log.specs.PartitionLaws.{applyAll, ApplyInTurn, AllFit, picked, picked-yes, picked-no, picked-in, Closed, partition}
 use Rattle.session.specs.Call.{Geometry}
-use Rattle.session.specs.Model.{Model, model}
-use Rattle.register.specs.Register.{Register, Fate, waiting, sent, lost, Acknowledged, isWaiting, isSent, sending, losing, numbered, fated}
-use Rattle.register.specs.Kept.{lossOf, isLive, NumberedFrom, Kept}
-use Rattle.register.specs.PickLaws.{picked-same, picked-map, picked-twice, picked-none, apply-map, turn-map, fit-map, closed-map, closed-same}
+use Rattle.session.specs.Model.{Model, withView, withLog}
+use Rattle.session.specs.Effect.{sentFound}
+use Rattle.session.specs.PossibleLaws.{Sound, Issuable}
+use Rattle.session.specs.IssueLaws.{recordOf, record-good}
+use Rattle.register.specs.Replay.{replay}
+use Rattle.register.specs.Register.{Register, Touch, Renewal, Acknowledged, isWaiting, isSent, sentIn, waitingIn, viewOf, sending, losing, acknowledged, withOperations, later}
+use Rattle.register.specs.Claim.{AppliesInTurn, lossOf}
+use Rattle.register.specs.FateLaws.{Among, isLive, waits-not-sent, sent-live, waiting-live, live-waits, send-loss, send-sent, send-waiting, send-live, lose-loss, lose-waiting, lose-sent, lose-live}
+use Rattle.register.specs.InvariantLaws.{Kept}
+use Rattle.register.specs.OperationLaws.{numbers-rise, numbers-map, numbers-end, map-loss, length-map, loss-in, chosen-picked, waits-of}
+use Rattle.register.specs.PickLaws.{picked-none, picked-same, picked-map, picked-twice, picked-append, apply-map, turn-map, fit-map, closed-map, closed-same, closed-all, closed-end, apply-append, turn-append}
 use Rattle.register.specs.SendLaws.{rising-unique, adding, in-picked, there-picked, OneMore, one-more}
 
-numbers-above : (k : ℕ) (l : List Acknowledged) → NumberedFrom k l → (a : Acknowledged) → List·Memᴰ a l → k ≤ a .loss .sequence
-numbers-above k [] n a m = absurd (List·Memᴰ·not-nil m)
-numbers-above k (b ∷ l) n a m =
-    ⊎-elim (λ (e : a ≡ b). let z = ap (λ (x : Acknowledged). x .loss .sequence) e in let y = n .0 in omega arith)
-    (λ (t : List·Memᴰ a l). let h = numbers-above (k + 1) l (n .1) a t in omega arith) (List·Memᴰ·cases-cons m)
-
--- operations numbered on rise
-pub numbers-rise : (k : ℕ) (l : List Acknowledged) → NumberedFrom k l → Rising (λ a. a .loss .sequence) l
-numbers-rise k [] n = tt
-numbers-rise k (b ∷ l) n = ((λ a m. let h = numbers-above (k + 1) l (n .1) a m in let y = n .0 in omega arith), numbers-rise (k + 1) l (n .1))
-
-pub numbers-below : (j : ℕ) (l : List Acknowledged) → NumberedFrom j l → (a : Acknowledged) → List·Memᴰ a l → a .loss .sequence < j + length l
-numbers-below j [] n a m = absurd (List·Memᴰ·not-nil m)
-numbers-below j (b ∷ l) n a m =
-    ⊎-elim (λ (e : a ≡ b). let z = ap (λ (c : Acknowledged). c .loss .sequence) e in let y = n .0 in omega arith)
-    (λ (t : List·Memᴰ a l). let z = numbers-below (j + 1) l (n .1) a t in omega arith) (List·Memᴰ·cases-cons m)
-
+-- what is picked rises as the list does
 pub rise-picked : {A : Type 0} (key : A → ℕ) (f : A → Bool) (l : List A) → Rising key l → Rising key (picked f l)
 unfolding picked
 rise-picked key f [] r = tt
-rise-picked {A} key f (a ∷ l) r = go (f a) (rise-picked key f l (r .1))
+rise-picked key f (a ∷ l) r = go (f a) (rise-picked key f l (r .1))
   where
     go : (t : Bool) → Rising key (picked f l) → Rising key (cond t (a ∷ picked f l) (picked f l))
     go true ih = ((λ b m. r .0 b (picked-in f l b m)), ih)
     go false ih = ih
 
-pub numbers-map : (g : Acknowledged → Acknowledged) → ((a : Acknowledged) → lossOf (g a) ≡ lossOf a) → (k : ℕ) (l : List Acknowledged) → NumberedFrom k l → NumberedFrom k (map g l)
-numbers-map g s k [] n = tt
-numbers-map g s k (a ∷ l) n = (ap (λ (r : Record). r .sequence) (s a) ∙ n .0, numbers-map g s (k + 1) l (n .1))
+nothing-picked : (l : List Acknowledged) → picked (λ a. false) l ≡ []
+unfolding picked
+nothing-picked [] = refl
+nothing-picked (a ∷ l) = nothing-picked l
 
--- the change of fates that a send of one record makes
-abbrev pub sendOf : Record → Acknowledged → Acknowledged
-sendOf r = sending (r ∷ [])
-
-pub send-loss : (l : List Record) (a : Acknowledged) → lossOf (sending l a) ≡ lossOf a
-send-loss l a = go (numbered (a .loss .sequence) l)
-  where
-    go : (t : Bool) → lossOf (cond t (fated sent a) a) ≡ lossOf a
-    go true = refl
-    go false = refl
-
-one-numbered : (q : ℕ) (r : Record) → numbered q (r ∷ []) ≡ eqb (r .sequence) q
-unfolding numbered
-one-numbered q r = or-false (eqb (r .sequence) q)
-
-pub send-by : (r : Record) (a : Acknowledged) (t : Bool) → eqb (r .sequence) (a .loss .sequence) ≡ t → sendOf r a ≡ cond t (fated sent a) a
-send-by r a t e = ap (λ (s : Bool). cond s (fated sent a) a) (one-numbered (a .loss .sequence) r ∙ e)
-
-pub eqb-flip : (a b : ℕ) → eqb a b ≡ eqb b a
-eqb-flip a b = go (eqb b a) refl
-  where
-    go : (t : Bool) → eqb b a ≡ t → eqb a b ≡ eqb b a
-    go true e = eq-eqb a b (sym (eqb-true b a e)) ∙ sym e
-    go false e = ne-eqb a b (λ k. eqb-false b a e (sym k)) ∙ sym e
-
--- who is sent after a send of r: who was, and r's own
-pub send-sent : (r : Record) (a : Acknowledged) → isSent (sendOf r a) ≡ (isSent a || eqb (a .loss .sequence) (r .sequence))
-send-sent r a = go (eqb (r .sequence) (a .loss .sequence)) refl
-  where
-    go : (t : Bool) → eqb (r .sequence) (a .loss .sequence) ≡ t → isSent (sendOf r a) ≡ (isSent a || eqb (a .loss .sequence) (r .sequence))
-    go true e = ap isSent (send-by r a true e) ∙ sym (ap (λ (s : Bool). isSent a || s) (eqb-flip (a .loss .sequence) (r .sequence) ∙ e) ∙ either (isSent a))
-      where
-        either : (s : Bool) → (s || true) ≡ true
-        either true = refl
-        either false = refl
-    go false e = ap isSent (send-by r a false e) ∙ sym (ap (λ (s : Bool). isSent a || s) (eqb-flip (a .loss .sequence) (r .sequence) ∙ e) ∙ or-false (isSent a))
-
--- who waits after it: who did, but for r's own
-pub send-waiting : (r : Record) (a : Acknowledged) → isWaiting (sendOf r a) ≡ (isWaiting a && not (eqb (a .loss .sequence) (r .sequence)))
-send-waiting r a = go (eqb (r .sequence) (a .loss .sequence)) refl
-  where
-    go : (t : Bool) → eqb (r .sequence) (a .loss .sequence) ≡ t → isWaiting (sendOf r a) ≡ (isWaiting a && not (eqb (a .loss .sequence) (r .sequence)))
-    go true e = ap isWaiting (send-by r a true e) ∙ sym (ap (λ (s : Bool). isWaiting a && not s) (eqb-flip (a .loss .sequence) (r .sequence) ∙ e) ∙ none (isWaiting a))
-      where
-        none : (s : Bool) → (s && false) ≡ false
-        none true = refl
-        none false = refl
-    go false e = ap isWaiting (send-by r a false e) ∙ sym (ap (λ (s : Bool). isWaiting a && not s) (eqb-flip (a .loss .sequence) (r .sequence) ∙ e) ∙ all (isWaiting a))
-      where
-        all : (s : Bool) → (s && true) ≡ s
-        all true = refl
-        all false = refl
-
--- who is live stays so, where r's own waits
-pub send-live : (r : Record) (a : Acknowledged) → (eqb (a .loss .sequence) (r .sequence) ≡ true → isWaiting a ≡ true) → isLive (sendOf r a) ≡ isLive a
-send-live r a h = go (eqb (r .sequence) (a .loss .sequence)) refl
-  where
-    go : (t : Bool) → eqb (r .sequence) (a .loss .sequence) ≡ t → isLive (sendOf r a) ≡ isLive a
-    go true e = ap isLive (send-by r a true e) ∙ sym (ap (λ (s : Bool). isSent a || s) (h (eqb-flip (a .loss .sequence) (r .sequence) ∙ e)) ∙ either (isSent a))
-      where
-        either : (s : Bool) → (s || true) ≡ true
-        either true = refl
-        either false = refl
-    go false e = ap isLive (send-by r a false e)
+map-end : (l : List Acknowledged) (a : Acknowledged) → map lossOf (l ++ (a ∷ [])) ≡ map lossOf l ++ (a .loss ∷ [])
+map-end [] a = refl
+map-end (b ∷ l) a = ap (λ (x : List Record). b .loss ∷ x) (map-end l a)
 
 -- the records of what a test on records picks besides
 picked-losses : (f : Acknowledged → Bool) (k : Record → Bool) (l : List Acknowledged) → map lossOf (picked (λ a. f a && k (a .loss)) l) ≡ picked k (map lossOf (picked f l))
@@ -134,10 +66,6 @@ picked-losses f k (a ∷ l) = go (f a) (k (a .loss)) refl (picked-losses f k l)
     go true false e ih = ih ∙ sym (picked-no k (a .loss) (map lossOf (picked f l)) e)
     go false t e ih = ih
 
-pub map-loss : (g : Acknowledged → Acknowledged) → ((a : Acknowledged) → lossOf (g a) ≡ lossOf a) → (l : List Acknowledged) → map lossOf (map g l) ≡ map lossOf l
-map-loss g s [] = refl
-map-loss g s (a ∷ l) = (λ i. s a i ∷ map-loss g s l i)
-
 -- a list in rising order less the one of a number
 all-kept : (q : ℕ) (l : List Record) → ((r : Record) → List·Memᴰ r l → r .sequence ≡ q → ⊥) → picked (λ r. not (eqb (r .sequence) q)) l ≡ l
 unfolding picked
@@ -146,144 +74,241 @@ all-kept q (r ∷ l) h =
     let e : eqb (r .sequence) q ≡ false = ne-eqb _ _ (h r (List·Memᴰ·head refl)) in
     picked-yes (λ s. not (eqb (s .sequence) q)) r l (ap not e) ∙ ap (λ (x : List Record). r ∷ x) (all-kept q l (λ s m. h s (List·Memᴰ·tail m)))
 
-less-one : (u v : List Record) (r : Record) → Rising (λ s. s .sequence) (u ++ (r ∷ v)) → picked (λ s. not (eqb (s .sequence) (r .sequence))) (u ++ (r ∷ v)) ≡ u ++ v
+less-one : (u v : List Record) (r : Record) → InOrder (u ++ (r ∷ v)) → picked (λ s. not (eqb (s .sequence) (r .sequence))) (u ++ (r ∷ v)) ≡ u ++ v
 less-one [] v r rise =
     picked-no (λ s. not (eqb (s .sequence) (r .sequence))) r v (ap not (eq-eqb (r .sequence) (r .sequence) refl))
     ∙ all-kept (r .sequence) v (λ s m e. let lt = rise .0 s m in omega arith)
 less-one (s ∷ u) v r rise =
-    let lt = rise .0 r (in-middle u v r) in
+    let lt = rise .0 r (Memᴰ·append-right u (List·Memᴰ·head refl)) in
     let e : eqb (s .sequence) (r .sequence) ≡ false = ne-eqb (s .sequence) (r .sequence) (λ k. omega arith) in
     picked-yes (λ t. not (eqb (t .sequence) (r .sequence))) s (u ++ (r ∷ v)) (ap not e) ∙ ap (λ (x : List Record). s ∷ x) (less-one u v r (rise .1))
-  where
-    in-middle : (u v : List Record) (r : Record) → List·Memᴰ r (u ++ (r ∷ v))
-    in-middle u v r = Memᴰ·append-right u (List·Memᴰ·head refl)
 
-pub length-map : (g : Acknowledged → Acknowledged) (l : List Acknowledged) → length (map g l) ≡ length l
-length-map g [] = refl
-length-map g (a ∷ l) = ap suc (length-map g l)
+-- a replay in which each applies passes over none
+pub replay-all : (v : Volume) (l : List Acknowledged) → ApplyInTurn lossOf v l → replay v (map lossOf l) ≡ applyAll lossOf v l
+unfolding replay applyAll
+replay-all v [] t = refl
+replay-all v (a ∷ l) t =
+    ap (λ (b : Bool). replay (cond b (apply v (a .loss .operation)) v) (map lossOf l)) (t .0) ∙ replay-all (apply v (a .loss .operation)) l (t .1)
 
-pub waits-not-sent : (a : Acknowledged) → isWaiting a ≡ true → isSent a ≡ false
-waits-not-sent a h = go (a .fate) h
-  where
-    go : (f : Fate) → isWaiting (fated f a) ≡ true → isSent (fated f a) ≡ false
-    go waiting k = refl
-    go sent k = let z : _≡_ {A = ℕ} 0 1 = cc in absurd (omega arith)
-    go (lost t) k = refl
+-- what applies in turn applies to the replay of those before it
+pub turn-split : (v : Volume) (l : List Acknowledged) → ApplyInTurn lossOf v l → AppliesInTurn v (map lossOf l)
+unfolding replay
+turn-split v [] t [] after r e = let z : _≡_ {A = ℕ} 0 1 = cc in absurd (omega arith)
+turn-split v [] t (b ∷ before) after r e = let z : _≡_ {A = ℕ} 0 1 = cc in absurd (omega arith)
+turn-split v (a ∷ l) t [] after r e = let z : a .loss ≡ r = cc in subst (λ (y : Record). applies v (y .operation) ≡ true) z (t .0)
+turn-split v (a ∷ l) t (b ∷ before) after r e =
+    let z : a .loss ≡ b = cc in
+    let w : map lossOf l ≡ before ++ (r ∷ after) = cc in
+    let ih = turn-split (apply v (a .loss .operation)) l (t .1) before after r w in
+    let fits : applies v (b .operation) ≡ true = subst (λ (y : Record). applies v (y .operation) ≡ true) z (t .0) in
+    let on : replay (cond (applies v (b .operation)) (apply v (b .operation)) v) before ≡ replay (apply v (a .loss .operation)) before =
+    ap (λ (t : Bool). replay (cond t (apply v (b .operation)) v) before) fits ∙ ap (λ (y : Record). replay (apply v (y .operation)) before) (sym z) in
+    ap (λ (y : Volume). applies y (r .operation)) on ∙ ih
 
-pub live-waits : (a : Acknowledged) → isLive a ≡ true → isSent a ≡ false → isWaiting a ≡ true
-live-waits a l s = go (isSent a) s l
-  where
-    go : (t : Bool) → t ≡ false → (t || isWaiting a) ≡ true → isWaiting a ≡ true
-    go true e k = let z : _≡_ {A = ℕ} 0 1 = cc in absurd (omega arith)
-    go false e k = k
+-- an operation that waits and that no waiting one directly precedes
+pub record Free (ops : List Acknowledged) (a : Acknowledged) : Type 0 where
+  pub among : Among a ops
+  pub waiting : isWaiting a ≡ true
+  pub clear :
+      (w : Acknowledged) → Among w ops → isWaiting w ≡ true → w .loss .sequence < a .loss .sequence
+      → directlyPrecedes (w .loss .operation) (a .loss .operation) ≡ false
 
-pub sent-live : (a : Acknowledged) → isSent a ≡ true → isLive a ≡ true
-sent-live a h = ap (λ (t : Bool). t || isWaiting a) h
+module _ (g : Geometry) (r : Register) (x : Model) (k : Kept g r x) where
+  sent-live-same : picked isSent (picked isLive (r .operations)) ≡ picked isSent (r .operations)
+  sent-live-same = picked-twice isSent isLive (r .operations) (λ c mc e. sent-live c e)
 
-pub waiting-live : (a : Acknowledged) → isWaiting a ≡ true → isLive a ≡ true
-waiting-live a h = ap (λ (t : Bool). isSent a || t) h ∙ either (isSent a)
-  where
-    either : (s : Bool) → (s || true) ≡ true
-    either true = refl
-    either false = refl
+  -- the sent ones apply in turn by themselves
+  pub sent-turn : ApplyInTurn lossOf (r .mounted) (picked isSent (r .operations))
+  sent-turn =
+      let live = picked isLive (r .operations) in
+      let fit : AllFit lossOf (g .objects) (g .blocks) live = λ c m. k .fit c (picked-in isLive (r .operations) c m) in
+      let p = partition lossOf (g .objects) (g .blocks) (swap (g .objects) (g .blocks)) isSent live (r .mounted) (k .mounted) fit (k .closed) (k .turn) in
+      subst (ApplyInTurn lossOf (r .mounted)) sent-live-same (p .part)
 
-pub loss-in : (l : List Acknowledged) (a : Acknowledged) → List·Memᴰ a l → List·Memᴰ (a .loss) (map lossOf l)
-loss-in [] a m = absurd (List·Memᴰ·not-nil m)
-loss-in (b ∷ l) a m = ⊎-elim (λ e. List·Memᴰ·head (ap lossOf e)) (λ t. List·Memᴰ·tail (loss-in l a t)) (List·Memᴰ·cases-cons m)
+  -- the server is the replay of the sent ones
+  pub server-replayed : replay (r .mounted) (sentIn r) ≡ x .server
+  server-replayed = ap (replay (r .mounted)) (chosen-picked isSent (r .operations)) ∙ replay-all (r .mounted) (picked isSent (r .operations)) sent-turn ∙ sym (k .server)
 
-module _ (g : Geometry) where
-  -- one send of a waiting operation that no earlier waiting one directly precedes
-  pub send-kept : (r : Register) (x : Model) → Kept g r x → (a : Acknowledged) → List·Memᴰ a (r .operations) → isWaiting a ≡ true
-      → ((w : Acknowledged) → List·Memᴰ w (r .operations) → isWaiting w ≡ true → w .loss .sequence < a .loss .sequence → directlyPrecedes (w .loss .operation) (a .loss .operation) ≡ false)
-      → (s : Register) → s .mounted ≡ r .mounted → s .operations ≡ map (sendOf (a .loss)) (r .operations)
-      → (applies (x .server) (a .loss .operation) ≡ true) × Kept g s (model (apply (x .server) (a .loss .operation)) (x .view) (Change.sent (a .loss .sequence) (x .log)))
-  send-kept r x k a m wa free s sm so =
+  -- the view is the replay of the sent and waiting ones
+  pub view-replayed : viewOf r ≡ x .view
+  unfolding viewOf
+  view-replayed = ap (replay (r .mounted)) (chosen-picked isLive (r .operations)) ∙ replay-all (r .mounted) (picked isLive (r .operations)) (k .turn) ∙ sym (k .view)
+
+  -- what waits in the register waits in the log
+  pub waiting-same : waitingIn r ≡ waitingOf (x .log .slots)
+  waiting-same = chosen-picked isWaiting (r .operations) ∙ sym (k .waiting)
+
+  -- each sent one applies where it stands in the replay
+  pub sent-applies : AppliesInTurn (r .mounted) (sentIn r)
+  sent-applies = subst (AppliesInTurn (r .mounted)) (sym (chosen-picked isSent (r .operations))) (turn-split (r .mounted) (picked isSent (r .operations)) sent-turn)
+
+  -- a waiting operation of the register is found in the log
+  pub waiting-logged : (a : Acknowledged) → Among a (r .operations) → isWaiting a ≡ true → List·Memᴰ (a .loss) (waitingOf (x .log .slots))
+  waiting-logged a m w = subst (List·Memᴰ (a .loss)) (sym (k .waiting)) (loss-in (picked isWaiting (r .operations)) a (there-picked lossOf isWaiting (r .operations) a m w))
+
+  -- a waiting record that none of the waiting ones directly precedes, as an operation of the register
+  pub free-of : (q : Record) → List·Memᴰ q (waitingOf (x .log .slots)) → any (λ a. before a q) (waitingOf (x .log .slots)) ≡ false
+      → (a : Acknowledged) × (a .loss ≡ q) × Free (r .operations) a
+  free-of q m none =
+      let w = waits-of (r .operations) q (subst (List·Memᴰ q) (k .waiting) m) in
+      let clear : (c : Acknowledged) → Among c (r .operations) → isWaiting c ≡ true → c .loss .sequence < q .sequence → directlyPrecedes (c .loss .operation) (q .operation) ≡ false =
+      λ c mc wc lt.
+      ap (λ (b : Bool). b && directlyPrecedes (c .loss .operation) (q .operation)) (sym (lt-ltb _ _ lt)) ∙ any-none (λ a. before a q) (waitingOf (x .log .slots)) none (c .loss) (waiting-logged c mc wc) in (
+        w .who,
+        w .loss,
+        record {
+          among = w .among;
+          waiting = w .waiting;
+          clear =
+              subst
+              (λ (z : Record). (c : Acknowledged) → Among c (r .operations) → isWaiting c ≡ true → c .loss .sequence < z .sequence → directlyPrecedes (c .loss .operation) (z .operation) ≡ false)
+              (sym (w .loss)) clear;
+        },
+      )
+
+  -- such an operation is one more to be sent
+  free-more : (a : Acknowledged) → Free (r .operations) a → OneMore lossOf (r .mounted) isSent (picked isLive (r .operations)) a
+  free-more a f =
       let n = g .objects in
       let b = g .blocks in
       let ops = r .operations in
-      let q = a .loss .sequence in
-      let h = sendOf (a .loss) in
-      let live = picked isLive ops in
-      let rise = numbers-rise 1 ops (k .numbers) in
-      let own : (c : Acknowledged) → List·Memᴰ c ops → eqb (c .loss .sequence) q ≡ true → isWaiting c ≡ true =
-      λ c mc e. subst (λ (y : Acknowledged). isWaiting y ≡ true) (rising-unique lossOf ops rise a c m mc (sym (eqb-true _ _ e))) wa in
-      let sent-twice : picked isSent live ≡ picked isSent ops = picked-twice isSent isLive ops (λ c mc e. sent-live c e) in
-      let one : OneMore lossOf (r .mounted) isSent live a =
-      one-more lossOf n b (swap n b) (r .mounted) isSent live a (k .mounted) (λ c mc. k .fit c (picked-in isLive ops c mc)) (k .turn) (k .closed)
-      (rise-picked (λ c. c .loss .sequence) isLive ops rise) (there-picked lossOf isLive ops a m (waiting-live a wa)) (waits-not-sent a wa)
-      (λ w mw fw lt. free w (picked-in isLive ops w mw) (live-waits w (in-picked lossOf isLive ops w mw) fw) lt) in
-      let server : x .server ≡ applyAll lossOf (r .mounted) (picked isSent live) = k .server ∙ ap (applyAll lossOf (r .mounted)) (sym sent-twice) in
-      let fit : applies (x .server) (a .loss .operation) ≡ true = ap (λ (v : Volume). applies v (a .loss .operation)) server ∙ one .fit in
-      let good = k .fit a m in
-      let live-same : picked isLive (map h ops) ≡ map h live = picked-map isLive h ops ∙ ap (map h) (picked-same (λ c. isLive (h c)) isLive ops (λ c mc. send-live (a .loss) c (own c mc))) in
-      let sent-same : picked isSent (map h ops) ≡ map h (picked (adding lossOf isSent q) ops) = picked-map isSent h ops ∙ ap (map h) (picked-same (λ c. isSent (h c)) (adding lossOf isSent q) ops (λ c mc. send-sent (a .loss) c)) in
-      let more-live : picked (adding lossOf isSent q) live ≡ picked (adding lossOf isSent q) ops =
-      picked-twice (adding lossOf isSent q) isLive ops (λ c mc e. ⊎-elim (sent-live c) (λ z. waiting-live c (own c mc z)) (or-cases (isSent c) (eqb (c .loss .sequence) q) e)) in
-      let after : apply (x .server) (a .loss .operation) ≡ applyAll lossOf (r .mounted) (picked isSent (map h ops)) =
-      ap (λ (v : Volume). apply v (a .loss .operation)) server ∙ one .after ∙ ap (applyAll lossOf (r .mounted)) more-live
-      ∙ sym (ap (applyAll lossOf (r .mounted)) sent-same ∙ apply-map lossOf h (send-loss (a .loss ∷ [])) (r .mounted) (picked (adding lossOf isSent q) ops)) in
-      let wl = waitingOf (x .log .slots) in
-      let am : List·Memᴰ (a .loss) wl = subst (λ (l : List Record). List·Memᴰ (a .loss) l) (sym (k .waiting)) (loss-in (picked isWaiting ops) a (there-picked lossOf isWaiting ops a m wa)) in
-      let cut = sent-waiting q (x .log) (a .loss) (waiting-at n b (g .capacity) (x .log) (k .sound .log) am) in
-      let order = subst (λ (l : List Record). Rising (λ (z : Record). z .sequence) l) (cut .2) (waiting-in-order n b (g .capacity) (x .log) (k .sound .log)) in
-      let left : map lossOf (picked isWaiting (map h ops)) ≡ picked (λ z. not (eqb (z .sequence) q)) wl =
-      ap (map lossOf) (picked-map isWaiting h ops) ∙ map-loss h (send-loss (a .loss ∷ [])) (picked (λ c. isWaiting (h c)) ops)
-      ∙ ap (map lossOf) (picked-same (λ c. isWaiting (h c)) (λ c. isWaiting c && not (eqb (c .loss .sequence) q)) ops (λ c mc. send-waiting (a .loss) c))
-      ∙ picked-losses isWaiting (λ z. not (eqb (z .sequence) q)) ops ∙ ap (picked (λ z. not (eqb (z .sequence) q))) (sym (k .waiting)) in
-      let waits : waitingOf (Change.sent q (x .log) .slots) ≡ map lossOf (picked isWaiting (map h ops)) =
-      cut .3 ∙ sym (left ∙ ap (picked (λ z. not (eqb (z .sequence) q))) (cut .2) ∙ less-one (cut .0) (cut .1) (a .loss) order) in
-      let y = model (apply (x .server) (a .loss .operation)) (x .view) (Change.sent q (x .log)) in
-      let kept : Kept g (record { mounted = r .mounted; operations = map h ops; touches = s .touches; renewals = s .renewals; clock = s .clock }) y =
+      one-more lossOf n b (swap n b) (r .mounted) isSent (picked isLive ops) a (k .mounted) (λ c mc. k .fit c (picked-in isLive ops c mc)) (k .turn) (k .closed)
+      (rise-picked (λ c. c .loss .sequence) isLive ops (numbers-rise 1 ops (k .numbers))) (there-picked lossOf isLive ops a (f .among) (waiting-live a (f .waiting)))
+      (waits-not-sent a (f .waiting)) (λ w mw fw lt. f .clear w (picked-in isLive ops w mw) (live-waits w (in-picked lossOf isLive ops w mw) fw) lt)
+
+  server-live : x .server ≡ applyAll lossOf (r .mounted) (picked isSent (picked isLive (r .operations)))
+  server-live = k .server ∙ ap (applyAll lossOf (r .mounted)) (sym sent-live-same)
+
+  -- and it applies to the server
+  pub free-applies : (a : Acknowledged) → Free (r .operations) a → applies (x .server) (a .loss .operation) ≡ true
+  free-applies a f = ap (λ (v : Volume). applies v (a .loss .operation)) server-live ∙ free-more a f .fit
+
+  -- an effect that sends, issues and discards nothing
+  pub same-kept : (t : List Touch) (n : List Renewal) (c : ℕ) (y : Model) → Sound g y → y .server ≡ x .server → y .view ≡ x .view → y .log .next ≡ x .log .next
+      → waitingOf (y .log .slots) ≡ waitingOf (x .log .slots)
+      → Kept g (record { mounted = r .mounted; operations = r .operations; touches = t; renewals = n; clock = c }) y
+  same-kept t n c y sound es ev en ew =
       record {
-        sound =
-            record {
-              range = k .sound .range;
-              server = apply-good n b (x .server) (a .loss) (k .sound .server) (good .0) (good .1) fit;
-              view = k .sound .view;
-              log = sent-good n b (g .capacity) q (x .log) (k .sound .log);
-            };
+        sound = sound;
         mounted = k .mounted;
-        numbers = numbers-map h (send-loss (a .loss ∷ [])) 1 ops (k .numbers);
-        next = k .next ∙ ap (λ (z : ℕ). z + 1) (sym (length-map h ops));
-        fit = fit-map lossOf n b h (send-loss (a .loss ∷ [])) ops (k .fit);
-        turn = subst (λ (l : List Acknowledged). ApplyInTurn lossOf (r .mounted) l) (sym live-same) (turn-map lossOf h (send-loss (a .loss ∷ [])) (r .mounted) live (k .turn));
-        view = k .view ∙ sym (ap (applyAll lossOf (r .mounted)) live-same ∙ apply-map lossOf h (send-loss (a .loss ∷ [])) (r .mounted) live);
-        server = after;
-        closed =
-            subst (λ (l : List Acknowledged). Closed lossOf isSent l) (sym live-same)
-            (closed-map lossOf isSent h (send-loss (a .loss ∷ [])) live (closed-same lossOf (adding lossOf isSent q) (λ c. isSent (h c)) live (λ c mc. sym (send-sent (a .loss) c)) (one .still)));
-        waiting = waits;
-      } in
-      (fit, subst (λ (z : Register). Kept g z y) (λ i. record { mounted = sym sm i; operations = sym so i; touches = s .touches; renewals = s .renewals; clock = s .clock }) kept)
+        numbers = k .numbers;
+        next = en ∙ k .next;
+        fit = k .fit;
+        turn = k .turn;
+        view = ev ∙ k .view;
+        server = es ∙ k .server;
+        closed = k .closed;
+        waiting = ew ∙ k .waiting;
+      }
 
--- an operation as all waiting ones are lost
-pub lose-loss : (t : ℕ) (a : Acknowledged) → lossOf (losing t a) ≡ lossOf a
-lose-loss t a = go (isWaiting a)
-  where
-    go : (b : Bool) → lossOf (cond b (fated (lost t) a) a) ≡ lossOf a
-    go true = refl
-    go false = refl
+  -- a change of fates, told by what it leaves live, sent and waiting
+  module _ (h : Acknowledged → Acknowledged) (same : (a : Acknowledged) → lossOf (h a) ≡ lossOf a) (y : Model) where
+    fates-kept : Sound g y → y .log .next ≡ x .log .next
+        → ApplyInTurn lossOf (r .mounted) (picked (λ c. isLive (h c)) (r .operations))
+        → y .view ≡ applyAll lossOf (r .mounted) (picked (λ c. isLive (h c)) (r .operations))
+        → y .server ≡ applyAll lossOf (r .mounted) (picked (λ c. isSent (h c)) (r .operations))
+        → Closed lossOf (λ c. isSent (h c)) (picked (λ c. isLive (h c)) (r .operations))
+        → waitingOf (y .log .slots) ≡ map lossOf (picked (λ c. isWaiting (h c)) (r .operations))
+        → Kept g (later (withOperations (map h (r .operations)) r)) y
+    fates-kept sound en turn view server closed waiting =
+        let ops = r .operations in
+        let v = r .mounted in
+        let live : picked isLive (map h ops) ≡ map h (picked (λ c. isLive (h c)) ops) = picked-map isLive h ops in
+        let all : (l : List Acknowledged) → applyAll lossOf v l ≡ applyAll lossOf v (map h l) = λ l. sym (apply-map lossOf h same v l) in
+        record {
+          sound = sound;
+          mounted = k .mounted;
+          numbers = numbers-map h same 1 ops (k .numbers);
+          next = en ∙ k .next ∙ ap (λ (z : ℕ). z + 1) (sym (length-map h ops));
+          fit = fit-map lossOf (g .objects) (g .blocks) h same ops (k .fit);
+          turn = subst (ApplyInTurn lossOf v) (sym live) (turn-map lossOf h same v (picked (λ c. isLive (h c)) ops) turn);
+          view = view ∙ all (picked (λ c. isLive (h c)) ops) ∙ ap (applyAll lossOf v) (sym live);
+          server = server ∙ all (picked (λ c. isSent (h c)) ops) ∙ ap (applyAll lossOf v) (sym (picked-map isSent h ops));
+          closed = subst (Closed lossOf isSent) (sym live) (closed-map lossOf isSent h same (picked (λ c. isLive (h c)) ops) closed);
+          waiting = waiting ∙ sym (ap (map lossOf) (picked-map isWaiting h ops) ∙ map-loss h same (picked (λ c. isWaiting (h c)) ops));
+        }
 
-pub lose-waiting : (t : ℕ) (a : Acknowledged) → isWaiting (losing t a) ≡ false
-lose-waiting t a = go (a .fate)
-  where
-    go : (f : Fate) → isWaiting (losing t (fated f a)) ≡ false
-    go waiting = refl
-    go sent = refl
-    go (lost u) = refl
+  -- the send of a waiting operation that no waiting one directly precedes
+  pub send-kept : (a : Acknowledged) → Free (r .operations) a → Sound g (sentFound (some (a .loss)) x)
+      → Kept g (later (withOperations (map (sending (a .loss .sequence)) (r .operations)) r)) (sentFound (some (a .loss)) x)
+  send-kept a f sound =
+      let ops = r .operations in
+      let v = r .mounted in
+      let q = a .loss .sequence in
+      let h = sending (a .loss .sequence) in
+      let more = adding lossOf isSent (a .loss .sequence) in
+      let one = free-more a f in
+      let own : (c : Acknowledged) → Among c ops → eqb (c .loss .sequence) q ≡ true → isWaiting c ≡ true =
+      λ c mc e. subst (λ (y : Acknowledged). isWaiting y ≡ true) (rising-unique lossOf ops (numbers-rise 1 ops (k .numbers)) a c (f .among) mc (sym (eqb-true _ _ e))) (f .waiting) in
+      let live : picked isLive ops ≡ picked (λ c. isLive (h c)) ops = picked-same isLive (λ c. isLive (h c)) ops (λ c mc. sym (send-live q c (own c mc))) in
+      let sent-all : picked more (picked isLive ops) ≡ picked (λ c. isSent (h c)) ops =
+      picked-twice more isLive ops (λ c mc e. ⊎-elim (sent-live c) (λ z. waiting-live c (own c mc z)) (or-cases (isSent c) (eqb (c .loss .sequence) q) e))
+      ∙ picked-same more (λ c. isSent (h c)) ops (λ c mc. sym (send-sent q c)) in
+      let wl = waitingOf (x .log .slots) in
+      let log = k .sound .log in
+      let cut = sent-waiting q (x .log) (a .loss) (waiting-at (g .objects) (g .blocks) (g .capacity) (x .log) log (waiting-logged a (f .among) (f .waiting))) in
+      let order = subst InOrder (cut .2) (waiting-in-order (g .objects) (g .blocks) (g .capacity) (x .log) log) in
+      let others : Record → Bool = λ z. not (eqb (z .sequence) q) in
+      let left : map lossOf (picked (λ c. isWaiting (h c)) ops) ≡ picked others wl =
+      ap (map lossOf) (picked-same (λ c. isWaiting (h c)) (λ c. isWaiting c && others (c .loss)) ops (λ c mc. send-waiting q c))
+      ∙ picked-losses isWaiting others ops ∙ ap (picked others) (sym (k .waiting)) in
+      fates-kept h (send-loss q) (sentFound (some (a .loss)) x) sound refl
+      (subst (ApplyInTurn lossOf v) live (k .turn))
+      (k .view ∙ ap (applyAll lossOf v) live)
+      (ap (λ (w : Volume). apply w (a .loss .operation)) server-live ∙ one .after ∙ ap (applyAll lossOf v) sent-all)
+      (subst (Closed lossOf (λ c. isSent (h c))) live (closed-same lossOf more (λ c. isSent (h c)) (picked isLive ops) (λ c mc. sym (send-sent q c)) (one .still)))
+      (cut .3 ∙ sym (left ∙ ap (picked others) (cut .2) ∙ less-one (cut .0) (cut .1) (a .loss) order))
 
-pub lose-sent : (t : ℕ) (a : Acknowledged) → isSent (losing t a) ≡ isSent a
-lose-sent t a = go (a .fate)
-  where
-    go : (f : Fate) → isSent (losing t (fated f a)) ≡ isSent (fated f a)
-    go waiting = refl
-    go sent = refl
-    go (lost u) = refl
+  -- all waiting ones become lost, and the view shows the server
+  pub cut-kept : (t : ℕ) → Sound g (withView (x .server) (withLog (Change.discard (x .log)) x))
+      → Kept g (later (withOperations (map (losing t) (r .operations)) r)) (withView (x .server) (withLog (Change.discard (x .log)) x))
+  unfolding Change.discard
+  cut-kept t sound =
+      let ops = r .operations in
+      let v = r .mounted in
+      let h = losing t in
+      let live : picked isSent ops ≡ picked (λ c. isLive (h c)) ops = picked-same isSent (λ c. isLive (h c)) ops (λ c m. sym (lose-live t c)) in
+      let sent-all : picked isSent ops ≡ picked (λ c. isSent (h c)) ops = picked-same isSent (λ c. isSent (h c)) ops (λ c m. sym (lose-sent t c)) in
+      let none : picked (λ c. isWaiting (h c)) ops ≡ [] = picked-same (λ c. isWaiting (h c)) (λ c. false) ops (λ c m. lose-waiting t c) ∙ nothing-picked ops in
+      fates-kept h (lose-loss t) (withView (x .server) (withLog (Change.discard (x .log)) x)) sound refl
+      (subst (ApplyInTurn lossOf v) live sent-turn)
+      (k .server ∙ ap (applyAll lossOf v) live)
+      (k .server ∙ ap (applyAll lossOf v) sent-all)
+      (closed-all lossOf (λ c. isSent (h c)) (picked (λ c. isLive (h c)) ops) (λ c m. lose-sent t c ∙ sym (lose-live t c) ∙ in-picked lossOf (λ d. isLive (h d)) ops c m))
+      (discard-waiting (x .log) ∙ sym (ap (map lossOf) none))
 
--- a number in a list is some record's
-pub numbered-in : (q : ℕ) (l : List Record) → numbered q l ≡ true → (r : Record) × List·Memᴰ r l × (r .sequence ≡ q)
-unfolding numbered
-numbered-in q [] e = let z : _≡_ {A = ℕ} 0 1 = cc in absurd (omega arith)
-numbered-in q (r ∷ l) e =
-    ⊎-elim (λ (z : eqb (r .sequence) q ≡ true). (r, List·Memᴰ·head refl, eqb-true _ _ z)) (λ (z : numbered q l ≡ true). let x = numbered-in q l z in (x .0, List·Memᴰ·tail (x .1), x .2))
-    (or-cases (eqb (r .sequence) q) (numbered q l) e)
+  -- one more operation, waiting, at the end
+  pub issue-kept : (p : ℕ) (o : Operation) → Issuable g x p o → Sound g (withView (apply (x .view) o) (withLog (Change.issue p o (x .log)) x))
+      → Kept g (later (withOperations (r .operations ++ (acknowledged p o r ∷ [])) r)) (withView (apply (x .view) o) (withLog (Change.issue p o (x .log)) x))
+  unfolding Change.issue applyAll
+  issue-kept p o i sound =
+      let ops = r .operations in
+      let v = r .mounted in
+      let a = acknowledged p o r in
+      let q = x .log .next in
+      let qn : recordOf q p o ≡ a .loss = ap (λ (z : ℕ). recordOf z p o) (k .next) in
+      let low = formed-inv (g .objects) (g .blocks) (g .capacity) (x .log) (k .sound .log) .from-one in
+      let good = record-good q p o low (i .number) (i .program) (i .recordable .good) in
+      let more : (f : Acknowledged → Bool) → f a ≡ true → picked f (ops ++ (a ∷ [])) ≡ picked f ops ++ (a ∷ []) =
+      λ f e. picked-append f ops (a ∷ []) ∙ ap (λ (z : List Acknowledged). picked f ops ++ z) (picked-yes f a [] e ∙ ap (λ (z : List Acknowledged). a ∷ z) (picked-none f)) in
+      let live = more isLive refl in
+      let sent-all : picked isSent (ops ++ (a ∷ [])) ≡ picked isSent ops =
+      picked-append isSent ops (a ∷ []) ∙ ap (λ (z : List Acknowledged). picked isSent ops ++ z) (picked-no isSent a [] refl ∙ picked-none isSent) ∙ append-nil (picked isSent ops) in
+      let fit : applies (applyAll lossOf v (picked isLive ops)) o ≡ true = ap (λ (w : Volume). applies w o) (sym (k .view)) ∙ i .fit in
+      record {
+        sound = sound;
+        mounted = k .mounted;
+        numbers = numbers-end 1 ops a (k .numbers) (omega arith);
+        next = ap (λ (z : ℕ). z + 1) (k .next ∙ sym (length-append ops (a ∷ [])));
+        fit =
+            λ c m.
+            ⊎-elim (λ (z : Among c ops). k .fit c z)
+            (λ (z : Among c (a ∷ [])).
+            subst (λ (w : Record). (valid w ≡ true) × (fits (g .objects) (g .blocks) w ≡ true)) (qn ∙ sym (ap lossOf (List·Memᴰ·eq-of-singleton z))) (good, i .recordable .within q p))
+            (List·Memᴰ·append-cases ops m);
+        turn = subst (ApplyInTurn lossOf v) (sym live) (turn-append lossOf v (picked isLive ops) (a ∷ []) (k .turn) (fit, tt));
+        view = ap (λ (w : Volume). apply w o) (k .view) ∙ sym (ap (applyAll lossOf v) live ∙ apply-append lossOf v (picked isLive ops) (a ∷ []));
+        server = k .server ∙ ap (applyAll lossOf v) (sym sent-all);
+        closed = subst (Closed lossOf isSent) (sym live) (closed-end lossOf isSent (picked isLive ops) a refl (k .closed));
+        waiting = issue-waiting p o (x .log) ∙ (λ j. k .waiting j ++ (qn j ∷ [])) ∙ sym (ap (map lossOf) (more isWaiting refl) ∙ map-end (picked isWaiting ops) a);
+      }

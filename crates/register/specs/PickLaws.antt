@@ -7,8 +7,8 @@ use mathlib.Core.List.{List, [], _∷_, _++_, map, List·Memᴰ, List·Memᴰ·h
 use mathlib.Core.Bool.{Bool, true, false, not, _&&_, _||_, cond}
 use Rattle.records.specs.Operation.{Record}
 use Rattle.records.specs.Fields.{valid, fits}
-use Rattle.volume.specs.Volume.{Volume}
-use Rattle.volume.specs.Apply.{applies, apply}
+use Rattle.search.specs.Volume.{Volume}
+use Rattle.applies.specs.Apply.{applies, apply}
 use Rattle.log.specs.Order.{directlyPrecedes}
 use Rattle.log.specs.PartitionLaws.{applyAll, ApplyInTurn, AllFit, PrecedesNone, picked, picked-yes, picked-no, picked-in, Closed}
 

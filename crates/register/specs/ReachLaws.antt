@@ -1,72 +1,33 @@
--- The chains of the history of calls are those through the waiting operations alone, and what a call leaves of them.
+-- The chains of the history of calls are those through the waiting operations alone, and what an effect leaves of them.
 use Prim.Native.Nat.{ℕ, _<_, _≤_}
 use native.Mathlib.Omega.{arith}
 use mathlib.Core.Path.{_≡_, refl, sym, ap, _∙_, subst}
-use mathlib.Core.Logic.{_⊎_, ⊎-elim}
-use mathlib.Core.List.{List, [], _∷_, map, List·Memᴰ}
-use mathlib.Core.Bool.{Bool, true, false, not, _&&_, _||_, and-eq-true-iff}
-use lib.Dec.{ltb, eqb}
-use borrow.Author.Tests.{ltb-true, lt-ltb, eqb-true, not-true}
-use Rattle.records.specs.Operation.{Operation, createFile, makeDirectory, remove, rename, overwrite, append, setLength, forder, Record, operands}
-use Rattle.records.specs.Fields.{member}
-use Rattle.log.specs.Order.{shares, touches, ofOverwrite, overlap, directlyPrecedes}
-use Rattle.log.specs.OrderLaws.{or-cases}
+use mathlib.Core.Logic.{_⊎_, inl, inr, ⊎-elim}
+use mathlib.Core.List.{List, map, List·Memᴰ}
+use mathlib.Core.Bool.{Bool, true, false, not, _&&_, and-eq-true-iff}
+use lib.Dec.{ltb}
+use borrow.Author.Tests.{ltb-true, lt-ltb, le-ltb, not-true}
+use Rattle.records.specs.Operation.{Operation, Record, operands}
+use Rattle.log.specs.Order.{shares, touches, directlyPrecedes}
+use Rattle.log.specs.SwapLaws.{Apart, disjoint, stretches, apart}
 use Rattle.log.specs.PartitionLaws.{picked}
-use Rattle.register.specs.Register.{Register, Fate, waiting, sent, lost, Acknowledged, Touch, isWaiting, isSent, goneBy, lostBefore, fated}
-use Rattle.register.specs.History.{touchesLater, touchesCall, Reaches, here, chain, Depends, issuer, caller}
-use Rattle.register.specs.Kept.{lossOf}
-use Rattle.register.specs.SendLaws.{there-picked}
-use Rattle.register.specs.KeptLaws.{waits-not-sent, loss-in}
-use Rattle.register.specs.TimeLaws.{Among, Timed, directly-of, Is, waits, went, gone, fate-is, no-both}
-use Rattle.register.specs.SyncLaws.{waits-of}
 use Rattle.log.specs.ChainLaws.{Chain, last, next}
-
--- an overwrite whose stretch fails a test
-record Overwrites (a : Operation) (k : ℕ → List ℕ → Bool) : Type 0 where
-  object : ℕ
-  offset : ℕ
-  bytes : List ℕ
-  is : a ≡ overwrite object offset bytes
-  fails : k offset bytes ≡ false
-
-overwrites : (a : Operation) (k : ℕ → List ℕ → Bool) → ofOverwrite a k ≡ false → Overwrites a k
-overwrites (createFile o p n) k e = no-both true refl e
-overwrites (makeDirectory o p n) k e = no-both true refl e
-overwrites (remove o p n) k e = no-both true refl e
-overwrites (rename o p q d n m) k e = no-both true refl e
-overwrites (overwrite o f c) k e = record { object = o; offset = f; bytes = c; is = refl; fails = e }
-overwrites (append o f c) k e = no-both true refl e
-overwrites (setLength o f) k e = no-both true refl e
-overwrites (forder l) k e = no-both true refl e
-
-one-shared : (o u : ℕ) → shares (o ∷ []) (u ∷ []) ≡ true → o ≡ u
-unfolding shares member
-one-shared o u e =
-    ⊎-elim (λ (x : (eqb o u || false) ≡ true). ⊎-elim (λ (y : eqb o u ≡ true). eqb-true o u y) (λ (y : false ≡ true). no-both false y refl) (or-cases (eqb o u) false x))
-    (λ (x : false ≡ true). no-both false x refl) (or-cases (eqb o u || false) false e)
-
-over-operands : (o f : ℕ) (c : List ℕ) → operands (overwrite o f c) ≡ o ∷ []
-unfolding operands
-over-operands o f c = refl
+use Rattle.register.specs.Register.{Register, Fate, waiting, sent, lost, Acknowledged, Touch, Renewal, isWaiting, isSent, fated}
+use Rattle.register.specs.History.{goneBy, lostBefore, directly, touchesLater, touchesCall, Reaches, here, chain, Depends, issuer, caller, Marked}
+use Rattle.register.specs.Claim.{lossOf}
+use Rattle.register.specs.FateLaws.{Among, no-both, FateIs, waits, went, gone, fate-is, waits-not-sent, sent-live, live-there, waiting-there}
+use Rattle.register.specs.InvariantLaws.{Timed}
+use Rattle.register.specs.SendLaws.{there-picked}
+use Rattle.register.specs.OperationLaws.{loss-in, waits-of}
 
 -- an operation that touches another but does not directly precede it is, with it, an overwrite of one file
 pub same-operands : (a b : Operation) → touches a b ≡ true → directlyPrecedes a b ≡ false → operands a ≡ operands b
-unfolding directlyPrecedes
-same-operands a b t d =
-    let x = overwrites a _ (sym (λ i. t i && ofOverwrite a (λ f c. ofOverwrite b (λ g e. overlap f c g e))) ∙ d) in
-    let y = overwrites b _ (x .fails) in
-    let ea : operands a ≡ x .object ∷ [] = ap operands (x .is) ∙ over-operands (x .object) (x .offset) (x .bytes) in
-    let eb : operands b ≡ y .object ∷ [] = ap operands (y .is) ∙ over-operands (y .object) (y .offset) (y .bytes) in
-    let s : shares (x .object ∷ []) (y .object ∷ []) ≡ true = sym (λ i. shares (ea i) (eb i)) ∙ t in
-    ea ∙ ap (λ (o : ℕ). o ∷ []) (one-shared (x .object) (y .object) s) ∙ sym eb
-
-pub waiting-there : (a : Acknowledged) (time : ℕ) → isWaiting a ≡ true → goneBy time (a .fate) ≡ false
-waiting-there a time h = go (a .fate) h
+unfolding operands
+same-operands a b t d = go (apart a b d)
   where
-    go : (f : Fate) → isWaiting (fated f a) ≡ true → goneBy time f ≡ false
-    go waiting k = refl
-    go sent k = refl
-    go (lost t) k = no-both false k refl
+    go : Apart a b → operands a ≡ operands b
+    go (disjoint e) = no-both (touches a b) t e
+    go (stretches o f g c e is also over) = ap operands is ∙ sym (ap operands also)
 
 -- what an operation's touching a later one, or a call, goes by
 pub record Touching (a b : Acknowledged) : Type 0 where
@@ -102,8 +63,11 @@ pub reaches-there : {r : Register} {a : Acknowledged} {t : Touch} → Reaches r 
 reaches-there {r} {a} {t} (here e) = call-inv a t e .there
 reaches-there (chain m e g x) = g
 
-module _ (r : Register) (c : ℕ) (timed : Timed (r .operations) c) (t : Touch) (now : t .time ≡ c) where
-  abbrev pub waitingRecords : List Record
+pub not-waiting : {C : Type 0} (a : Acknowledged) (u : ℕ) → isWaiting a ≡ true → a .fate ≡ lost u → C
+not-waiting a u w f = no-both (isWaiting a) w (ap (λ (x : Fate). isWaiting (fated x a)) f)
+
+module _ (r : Register) (timed : Timed (r .operations) (r .clock)) (t : Touch) (now : t .time ≡ r .clock) where
+  abbrev waitingRecords : List Record
   waitingRecords = map lossOf (picked isWaiting (r .operations))
 
   -- nobody that was lost reaches a call that is made now
@@ -115,11 +79,12 @@ module _ (r : Register) (c : ℕ) (timed : Timed (r .operations) c) (t : Touch) 
   -- a waiting one that touches a sent one has its operands
   swap : (a b : Acknowledged) → Among a (r .operations) → Among b (r .operations) → isWaiting a ≡ true → isSent b ≡ true → a .loss .sequence < b .loss .sequence
       → touches (a .loss .operation) (b .loss .operation) ≡ true → operands (a .loss .operation) ≡ operands (b .loss .operation)
+  unfolding directly
   swap a b ma mb wa sb lt sh = same-operands (a .loss .operation) (b .loss .operation) sh (no (directlyPrecedes (a .loss .operation) (b .loss .operation)) refl)
     where
-      no : (d : Bool) → directlyPrecedes (a .loss .operation) (b .loss .operation) ≡ d → directlyPrecedes (a .loss .operation) (b .loss .operation) ≡ false
-      no true e = no-both (isSent a) (timed .shut a b ma mb sb (directly-of a b (record { earlier = lt; there = waiting-there a (b .issued) wa; ordered = e }))) (waits-not-sent a wa)
-      no false e = e
+      no : (d : Bool) → directlyPrecedes (a .loss .operation) (b .loss .operation) ≡ d → d ≡ false
+      no true e = no-both (isSent a) (timed .shut a b ma mb sb (λ i. lt-ltb _ _ lt i && (not (waiting-there a (b .issued) wa i) && e i))) (waits-not-sent a wa)
+      no false e = refl
 
   waits-among : (b : Acknowledged) → Among b (r .operations) → isWaiting b ≡ true → List·Memᴰ (b .loss) waitingRecords
   waits-among b m w = loss-in (picked isWaiting (r .operations)) b (there-picked lossOf isWaiting (r .operations) b m w)
@@ -129,27 +94,28 @@ module _ (r : Register) (c : ℕ) (timed : Timed (r .operations) c) (t : Touch) 
       → touches (a .loss .operation) (b .loss .operation) ≡ true → Chain (t .touched) waitingRecords (a .loss)
   step-chain {b} (here e) mb a ma wa lt sh = go (fate-is b)
     where
-      go : Is b → Chain (t .touched) waitingRecords (a .loss)
+      go : FateIs b → Chain (t .touched) waitingRecords (a .loss)
       go (waits w s) = next (waits-among b mb w) lt sh (last (call-inv b t e .shared))
       go (went s w) = last (ap (λ (k : List ℕ). shares k (t .touched)) (swap a b ma mb wa s lt sh) ∙ call-inv b t e .shared)
       go (gone u f s w) = absurd (lost-none b u mb f (call-inv b t e .there))
   step-chain {b} (chain {b = d} md e g x) mb a ma wa lt sh =
       let l = later-inv b d e in
       let far = l .earlier in
-      go l (fate-is b) (λ w. step-chain x md b mb w (l .earlier) (l .shared)) (λ same. step-chain x md a ma wa (omega arith) (ap (λ (k : List ℕ). shares k (operands (d .loss .operation))) same ∙ l .shared))
+      go (fate-is b) (λ w. step-chain x md b mb w (l .earlier) (l .shared)) (λ same. step-chain x md a ma wa (omega arith) (ap (λ (k : List ℕ). shares k (operands (d .loss .operation))) same ∙ l .shared))
     where
-      go : Touching b d → Is b → (isWaiting b ≡ true → Chain (t .touched) waitingRecords (b .loss))
+      go : FateIs b → (isWaiting b ≡ true → Chain (t .touched) waitingRecords (b .loss))
           → (operands (a .loss .operation) ≡ operands (b .loss .operation) → Chain (t .touched) waitingRecords (a .loss)) → Chain (t .touched) waitingRecords (a .loss)
-      go l (waits w s) on past = next (waits-among b mb w) lt sh (on w)
-      go l (went s w) on past = past (swap a b ma mb wa s lt sh)
-      go l (gone u f s w) on past = absurd (lost-none b u mb f g)
+      go (waits w s) on past = next (waits-among b mb w) lt sh (on w)
+      go (went s w) on past = past (swap a b ma mb wa s lt sh)
+      go (gone u f s w) on past = absurd (lost-none b u mb f g)
 
   -- a chain of the history from a waiting operation to a call that is made now leads through waiting ones
-  pub reaches-chain : (a : Acknowledged) → Among a (r .operations) → isWaiting a ≡ true → Reaches r a t → Chain (t .touched) waitingRecords (a .loss)
+  pub reaches-chain : (a : Acknowledged) → Among a (r .operations) → isWaiting a ≡ true → Reaches r a t → Chain (t .touched) (map lossOf (picked isWaiting (r .operations))) (a .loss)
   reaches-chain a ma wa (here e) = last (call-inv a t e .shared)
   reaches-chain a ma wa (chain {b = b} mb e g x) = let l = later-inv a b e in step-chain x mb a ma wa (l .earlier) (l .shared)
 
-  pub chain-reaches : {q : Record} → Chain (t .touched) waitingRecords q → (a : Acknowledged) → Among a (r .operations) → isWaiting a ≡ true → a .loss ≡ q → Reaches r a t
+  -- and a chain through waiting ones is one of the history
+  pub chain-reaches : {q : Record} → Chain (t .touched) (map lossOf (picked isWaiting (r .operations))) q → (a : Acknowledged) → Among a (r .operations) → isWaiting a ≡ true → a .loss ≡ q → Reaches r a t
   chain-reaches (last e) a ma wa is =
       let i = timed .issued a ma in
       here (call-of a t (record { earlier = omega arith; there = waiting-there a (t .time) wa; shared = ap (λ (z : Record). shares (operands (z .operation)) (t .touched)) is ∙ e }))
@@ -163,42 +129,134 @@ module _ (r : Register) (c : ℕ) (timed : Timed (r .operations) c) (t : Touch) 
       } in
       chain (w .among) (later-of a (w .who) touching) (waiting-there a (t .time) wa) (chain-reaches x (w .who) (w .among) (w .waiting) (w .loss))
 
--- the operations of a register and of a later one that differ in fates that no call up to now tells apart
-pub record Renamed (r s : Register) (c : ℕ) (h : Acknowledged → Acknowledged) : Type 0 where
+-- an operation that is issued now, behind all others
+pub record Newest (r : Register) (c : ℕ) (b : Acknowledged) : Type 0 where
+  pub now : b .issued ≡ c
+  pub waiting : isWaiting b ≡ true
+  pub last : (d : Acknowledged) → Among d (r .operations) → d .loss .sequence ≤ b .loss .sequence
+
+-- a register and a later one: the same operations under changed fates and newest ones besides, of which those are newly lost that
+-- waited and are lost now; and the same history with calls and renewals made now
+pub record Renamed (r s : Register) (h : Acknowledged → Acknowledged) : Type 0 where
   pub to : (a : Acknowledged) → Among a (r .operations) → Among (h a) (s .operations)
-  pub from : (b : Acknowledged) → Among b (s .operations) → (a : Acknowledged) × Among a (r .operations) × (b ≡ h a)
+  pub from : (b : Acknowledged) → Among b (s .operations) → ((a : Acknowledged) × Among a (r .operations) × (b ≡ h a)) ⊎ Newest s (r .clock) b
   pub loss : (a : Acknowledged) → h a .loss ≡ a .loss
   pub issued : (a : Acknowledged) → h a .issued ≡ a .issued
-  pub gone : (a : Acknowledged) → Among a (r .operations) → (time : ℕ) → time ≤ c → goneBy time (h a .fate) ≡ goneBy time (a .fate)
-  pub past : (a : Acknowledged) → Among a (r .operations) → a .issued ≤ c
+  pub still : (a : Acknowledged) (u : ℕ) → Among a (r .operations) → a .fate ≡ lost u → h a .fate ≡ lost u
+  pub newly : (a : Acknowledged) (u : ℕ) → h a .fate ≡ lost u → (a .fate ≡ lost u) ⊎ ((isWaiting a ≡ true) × (u ≡ r .clock))
+  pub touches : (t : Touch) → List·Memᴰ t (r .touches) → List·Memᴰ t (s .touches)
+  pub calls : (t : Touch) → List·Memᴰ t (s .touches) → List·Memᴰ t (r .touches) ⊎ (t .time ≡ r .clock)
+  pub renewals : (n : Renewal) → List·Memᴰ n (r .renewals) → List·Memᴰ n (s .renewals)
 
-module _ (r s : Register) (c : ℕ) (h : Acknowledged → Acknowledged) (n : Renamed r s c h) where
+-- every call and every renewal of the history was before a time
+pub record Recalled (r : Register) (c : ℕ) : Type 0 where
+  pub touches : (t : Touch) → List·Memᴰ t (r .touches) → t .time < c
+  pub renewals : (n : Renewal) → List·Memᴰ n (r .renewals) → n .time < c
+
+-- a call of a program that is made now, and that an operation reaches
+pub record Called (r s : Register) (p : ℕ) (a : Acknowledged) : Type 0 where
+  pub call : Touch
+  pub among : List·Memᴰ call (s .touches)
+  pub now : call .time ≡ r .clock
+  pub own : call .program ≡ p
+  pub reaches : Reaches r a call
+
+-- an operation that waited and is lost now, on which a program depends
+pub record Discards (r s : Register) (h : Acknowledged → Acknowledged) (p : ℕ) : Type 0 where
+  pub on : Acknowledged
+  pub among : Among on (r .operations)
+  pub waited : isWaiting on ≡ true
+  pub gone : h on .fate ≡ lost (r .clock)
+  pub depends : Depends s p (h on)
+
+module _ (r s : Register) (h : Acknowledged → Acknowledged) (timed : Timed (r .operations) (r .clock)) (known : Recalled r (r .clock)) (n : Renamed r s h) where
+  gone-alike : (a : Acknowledged) → Among a (r .operations) → (time : ℕ) → time ≤ r .clock → goneBy time (h a .fate) ≡ goneBy time (a .fate)
+  gone-alike a ma time le = go (fate-is a)
+    where
+      live : goneBy time (a .fate) ≡ false → (f : Fate) → h a .fate ≡ f → goneBy time f ≡ goneBy time (a .fate)
+      live e waiting k = sym e
+      live e sent k = sym e
+      live e (lost u) k =
+          ⊎-elim (λ (z : a .fate ≡ lost u). ap (goneBy time) (sym z)) (λ (z : (isWaiting a ≡ true) × (u ≡ r .clock)). let y = z .1 in le-ltb u time (omega arith) ∙ sym e) (n .newly a u k)
+
+      go : FateIs a → goneBy time (h a .fate) ≡ goneBy time (a .fate)
+      go (waits w g) = live (waiting-there a time w) (h a .fate) refl
+      go (went g w) = live (live-there a time (sent-live a g)) (h a .fate) refl
+      go (gone u f g w) = ap (goneBy time) (n .still a u ma f ∙ sym f)
+
   later-alike : (a b : Acknowledged) → Among a (r .operations) → Among b (r .operations) → touchesLater (h a) (h b) ≡ touchesLater a b
   later-alike a b ma mb =
-      let g : goneBy (h b .issued) (h a .fate) ≡ goneBy (b .issued) (a .fate) = ap (λ (k : ℕ). goneBy k (h a .fate)) (n .issued b) ∙ n .gone a ma (b .issued) (n .past b mb) in
+      let past = timed .issued b mb in
+      let g : goneBy (h b .issued) (h a .fate) ≡ goneBy (b .issued) (a .fate) = ap (λ (k : ℕ). goneBy k (h a .fate)) (n .issued b) ∙ gone-alike a ma (b .issued) (omega arith) in
       λ i. ltb (n .loss a i .sequence) (n .loss b i .sequence) && (not (g i) && touches (n .loss a i .operation) (n .loss b i .operation))
 
-  call-alike : (a : Acknowledged) (t : Touch) → Among a (r .operations) → t .time ≤ c → touchesCall (h a) t ≡ touchesCall a t
-  call-alike a t ma le = λ i. ltb (n .issued a i) (t .time) && (not (n .gone a ma (t .time) le i) && shares (operands (n .loss a i .operation)) (t .touched))
+  call-alike : (a : Acknowledged) (t : Touch) → Among a (r .operations) → t .time ≤ r .clock → touchesCall (h a) t ≡ touchesCall a t
+  call-alike a t ma le = λ i. ltb (n .issued a i) (t .time) && (not (gone-alike a ma (t .time) le i) && shares (operands (n .loss a i .operation)) (t .touched))
 
-  pub reaches-to : {a : Acknowledged} {t : Touch} → Reaches r a t → Among a (r .operations) → t .time ≤ c → Reaches s (h a) t
+  reaches-to : {a : Acknowledged} {t : Touch} → Reaches r a t → Among a (r .operations) → t .time ≤ r .clock → Reaches s (h a) t
   reaches-to {a} {t} (here e) ma le = here (call-alike a t ma le ∙ e)
-  reaches-to {a} {t} (chain {b = b} mb e g x) ma le = chain (n .to b mb) (later-alike a b ma mb ∙ e) (n .gone a ma (t .time) le ∙ g) (reaches-to x mb le)
+  reaches-to {a} {t} (chain {b = b} mb e g x) ma le = chain (n .to b mb) (later-alike a b ma mb ∙ e) (gone-alike a ma (t .time) le ∙ g) (reaches-to x mb le)
 
-  pub reaches-from : {b : Acknowledged} {t : Touch} → Reaches s b t → (a : Acknowledged) → Among a (r .operations) → b ≡ h a → t .time ≤ c → Reaches r a t
+  -- the newest reaches no call
+  pub newest-none : {b : Acknowledged} {t : Touch} → Newest s (r .clock) b → Reaches s b t → t .time ≤ r .clock → ⊥
+  newest-none {b} {t} w (here e) le = let x = call-inv b t e .earlier in let y = w .now in omega arith
+  newest-none {b} {t} w (chain {b = d} md e g x) le = let y = later-inv b d e .earlier in let z = w .last d md in omega arith
+
+  reaches-from : {b : Acknowledged} {t : Touch} → Reaches s b t → (a : Acknowledged) → Among a (r .operations) → b ≡ h a → t .time ≤ r .clock → Reaches r a t
   reaches-from {b} {t} (here e) a ma is le = here (sym (call-alike a t ma le) ∙ ap (λ (y : Acknowledged). touchesCall y t) (sym is) ∙ e)
   reaches-from {b} {t} (chain {b = d} md e g x) a ma is le =
-      let f = n .from d md in
+      ⊎-elim
+      (λ (f : (c : Acknowledged) × Among c (r .operations) × (d ≡ h c)).
       let back : touchesLater (h a) (h (f .0)) ≡ touchesLater b d = λ i. touchesLater (sym is i) (sym (f .2) i) in
       chain (f .1) (sym (later-alike a (f .0) ma (f .1)) ∙ back ∙ e)
-      (sym (n .gone a ma (t .time) le) ∙ ap (λ (y : Acknowledged). goneBy (t .time) (y .fate)) (sym is) ∙ g) (reaches-from x (f .0) (f .1) (f .2) le)
+      (sym (gone-alike a ma (t .time) le) ∙ ap (λ (y : Acknowledged). goneBy (t .time) (y .fate)) (sym is) ∙ g) (reaches-from x (f .0) (f .1) (f .2) le))
+      (λ (f : Newest s (r .clock) d). absurd (newest-none f x le)) (n .from d md)
 
-  pub depends-to : (p : ℕ) (a : Acknowledged) → Among a (r .operations) → ((t : Touch) → List·Memᴰ t (r .touches) → t .time ≤ c) → ((t : Touch) → List·Memᴰ t (r .touches) → List·Memᴰ t (s .touches))
-      → Depends r p a → Depends s p (h a)
-  depends-to p a ma le more (issuer e) = issuer (ap (λ (z : Record). z .program) (n .loss a) ∙ e)
-  depends-to p a ma le more (caller {t = t} mt e x) = caller (more t mt) e (reaches-to x ma (le t mt))
+  -- whoever depended still does
+  pub depends-to : (p : ℕ) (a : Acknowledged) → Among a (r .operations) → Depends r p a → Depends s p (h a)
+  depends-to p a ma (issuer e) = issuer (ap (λ (z : Record). z .program) (n .loss a) ∙ e)
+  depends-to p a ma (caller {t = t} mt e x) = let y = known .touches t mt in caller (n .touches t mt) e (reaches-to x ma (omega arith))
 
-  pub depends-from : (p : ℕ) (a : Acknowledged) → Among a (r .operations) → ((t : Touch) → List·Memᴰ t (s .touches) → t .time ≤ c) → ((t : Touch) → List·Memᴰ t (s .touches) → List·Memᴰ t (r .touches))
-      → Depends s p (h a) → Depends r p a
-  depends-from p a ma le less (issuer e) = issuer (ap (λ (z : Record). z .program) (sym (n .loss a)) ∙ e)
-  depends-from p a ma le less (caller {t = t} mt e x) = caller (less t mt) e (reaches-from x a ma refl (le t mt))
+  pub depends-called : (p : ℕ) (a : Acknowledged) → Among a (r .operations) → Called r s p a → Depends s p (h a)
+  depends-called p a ma c = let y = c .now in caller (c .among) (c .own) (reaches-to (c .reaches) ma (omega arith))
+
+  -- and whoever depends did, or makes a call now
+  pub depends-from : (p : ℕ) (a : Acknowledged) → Among a (r .operations) → Depends s p (h a) → Depends r p a ⊎ Called r s p a
+  depends-from p a ma (issuer e) = inl (issuer (ap (λ (z : Record). z .program) (sym (n .loss a)) ∙ e))
+  depends-from p a ma (caller {t = t} mt e x) =
+      ⊎-elim (λ (k : List·Memᴰ t (r .touches)). let y = known .touches t k in inl (caller k e (reaches-from x a ma refl (omega arith))))
+      (λ (k : t .time ≡ r .clock). inr (record { call = t; among = mt; now = k; own = e; reaches = reaches-from x a ma refl (omega arith) })) (n .calls t mt)
+
+  -- a mark stays, unless its program renews
+  pub marked-to : (p : ℕ) → ((z : Renewal) → List·Memᴰ z (s .renewals) → z .program ≡ p → List·Memᴰ z (r .renewals)) → Marked r p → Marked s p
+  marked-to p old m =
+      record {
+        on = h (m .on);
+        acknowledged = n .to (m .on) (m .acknowledged);
+        time = m .time;
+        discarded = n .still (m .on) (m .time) (m .acknowledged) (m .discarded);
+        renewed = λ z mz e. m .renewed z (old z mz e) e;
+        depended = depends-to p (m .on) (m .acknowledged) (m .depended);
+      }
+
+  -- and a mark was there, or is for one that waited and is lost now
+  pub marked-from : (p : ℕ) → Marked s p → Marked r p ⊎ Discards r s h p
+  marked-from p m = ⊎-elim old (λ (w : Newest s (r .clock) (m .on)). not-waiting (m .on) (m .time) (w .waiting) (m .discarded)) (n .from (m .on) (m .acknowledged))
+    where
+      old : ((a : Acknowledged) × Among a (r .operations) × (m .on ≡ h a)) → Marked r p ⊎ Discards r s h p
+      old f =
+          let a = f .0 in
+          let fate : h a .fate ≡ lost (m .time) = ap (λ (b : Acknowledged). b .fate) (sym (f .2)) ∙ m .discarded in
+          let dep : Depends s p (h a) = subst (Depends s p) (f .2) (m .depended) in
+          ⊎-elim
+          (λ (k : a .fate ≡ lost (m .time)).
+          inl
+          (record {
+            on = a;
+            acknowledged = f .1;
+            time = m .time;
+            discarded = k;
+            renewed = λ z mz e. m .renewed z (n .renewals z mz) e;
+            depended = ⊎-elim (λ (d : Depends r p a). d) (λ (c : Called r s p a). absurd (lost-none r timed (c .call) (c .now) a (m .time) (f .1) k (reaches-there (c .reaches)))) (depends-from p a (f .1) dep);
+          }))
+          (λ (k : (isWaiting a ≡ true) × (m .time ≡ r .clock)). inr (record { on = a; among = f .1; waited = k .0; gone = fate ∙ ap lost (k .1); depends = dep })) (n .newly a (m .time) fate)

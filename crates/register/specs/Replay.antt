@@ -3,8 +3,8 @@
 use mathlib.Core.List.{List, [], _∷_}
 use mathlib.Core.Bool.{Bool, true, false, cond}
 use Rattle.records.specs.Operation.{Record}
-use Rattle.volume.specs.Volume.{Volume}
-use Rattle.volume.specs.Apply.{applies, apply}
+use Rattle.search.specs.Volume.{Volume}
+use Rattle.applies.specs.Apply.{applies, apply}
 
 unfoldable pub replay : Volume → List Record → Volume
 replay v [] = v

@@ -3,50 +3,62 @@
 use Prim.Native.Nat.{ℕ}
 use mathlib.Core.Path.{_≡_}
 use mathlib.Core.List.{List, [], _∷_, _++_, map, List·Memᴰ}
-use mathlib.Core.Bool.{Bool, true, not, _&&_}
+use mathlib.Core.Bool.{Bool, _&&_}
 use mathlib.Core.Option.{some}
 use Rattle.records.specs.Operation.{Record}
-use Rattle.volume.specs.Volume.{Volume}
-use Rattle.volume.specs.Stored.{decodeVolume}
+use Rattle.search.specs.Volume.{Volume}
+use Rattle.search.specs.Stored.{decodeVolume}
 use Rattle.session.specs.Call.{Geometry, Buffers, Call, push, cut, Answer}
-use Rattle.session.specs.Step.{Result, step, mount}
+use Rattle.session.specs.Step.{step, mount}
 use Rattle.register.specs.Register.{Register, opened, feed, Acknowledged, isSent, isWaiting, chosen}
+use Rattle.register.specs.History.{Is}
 
-pub record Run : Type 0 where
-  pub answers : List Answer
-  pub leaves : Buffers
+-- the three buffers and the register between two calls
+pub record State : Type 0 where
+  pub buffers : Buffers
   pub register : Register
 
-unfoldable pub run : Geometry → List Call → Buffers → Register → Run
-run g [] s r = record { answers = []; leaves = s; register = r }
-run g (c ∷ cs) s r =
-    let first = step g c s in
-    let rest = run g cs (first .leaves) (feed c (first .gives) r) in
-    record { answers = first .gives ∷ rest .answers; leaves = rest .leaves; register = rest .register }
+-- a call of the list, what it met and what it answered
+pub record Moment : Type 0 where
+  pub call : Call
+  pub before : State
+  pub answer : Answer
 
--- "The list starts as an accepted mount leaves the buffers": v is the server volume as mounted
+-- the calls of a list, in order, and what they left
+pub record Run : Type 0 where
+  pub moments : List Moment
+  pub last : State
+
+-- "Each gets the buffers as the last one left them."
+abbrev pub next : Geometry → Call → State → State
+next g c s =
+    let y = step g c (s .buffers) in
+    record { buffers = y .leaves; register = feed c (y .gives) (s .register) }
+
+unfoldable pub run : Geometry → List Call → State → Run
+run g [] s = record { moments = []; last = s }
+run g (c ∷ cs) s =
+    let rest = run g cs (next g c s) in
+    record { moments = record { call = c; before = s; answer = step g c (s .buffers) .gives } ∷ rest .moments; last = rest .last }
+
+-- "The list starts as an accepted mount leaves the buffers": v is the server volume as mounted, what the server's bytes then hold
 pub record Mounted (g : Geometry) (s : Buffers) (v : Volume) : Type 0 where
   pub accepted : mount g s .gives .returned ≡ 0
-  pub server : decodeVolume (g .objects) (g .blocks) (s .server) ≡ some v
+  pub server : decodeVolume (g .objects) (g .blocks) (mount g s .leaves .server) ≡ some v
 
 abbrev pub play : Geometry → Buffers → Volume → List Call → Run
-play g s v cs = run g cs (mount g s .leaves) (opened v)
+play g s v cs = run g cs (record { buffers = mount g s .leaves; register = opened v })
 
--- pushes of some operations, in their order
-abbrev pub pushes : List Record → List Call
-pushes l = map (λ (r : Record). push (r .sequence)) l
+-- every call of a run is accepted
+abbrev pub AllAccepted : Run → Type 0
+AllAccepted r = (m : Moment) → List·Memᴰ m (r .moments) → m .answer .returned ≡ 0
 
--- every answer of a list is an acceptance
-abbrev pub AllAccepted : List Answer → Type 0
-AllAccepted l = (a : Answer) → List·Memᴰ a l → a .returned ≡ 0
+-- pushes of the members that wait, in issue order, and then a cut; a set is told by the members' numbers
+abbrev pub instead : (ℕ → Bool) → Register → List Call
+instead set r = map (λ (q : Record). push (q .sequence)) (chosen (λ a. set (a .loss .sequence) && isWaiting a) (r .operations)) ++ (cut ∷ [])
 
 -- ""Could have been sent": in place of the list's last call, pushes of the members unsent before it, in issue order, and then a cut
--- would all be accepted and leave just that set sent": cs are the calls before the last one; a set is told by the members' numbers
-abbrev pub instead : (ℕ → Bool) → Run → List Call
-instead set r = pushes (chosen (λ a. set (a .loss .sequence) && isWaiting a) (r .register .operations)) ++ (cut ∷ [])
-
-pub record CouldHaveBeenSent (g : Geometry) (s : Buffers) (v : Volume) (cs : List Call) (set : ℕ → Bool) : Type 0 where
-  pub accepted : AllAccepted (run g (instead set (play g s v cs)) (play g s v cs .leaves) (play g s v cs .register) .answers)
-  pub just :
-      (a : Acknowledged) → List·Memᴰ a (run g (instead set (play g s v cs)) (play g s v cs .leaves) (play g s v cs .register) .register .operations)
-      → isSent a ≡ set (a .loss .sequence)
+-- would all be accepted and leave just that set sent": the state is the one before the last call
+pub record CouldHaveBeenSent (g : Geometry) (s : State) (set : ℕ → Bool) : Type 0 where
+  pub accepted : AllAccepted (run g (instead set (s .register)) s)
+  pub just : (a : Acknowledged) → Is a (run g (instead set (s .register)) s .last .register) → isSent a ≡ set (a .loss .sequence)

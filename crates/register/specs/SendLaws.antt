@@ -9,9 +9,9 @@ use mathlib.Core.Bool.{Bool, true, false, not, _&&_, _||_, cond}
 use lib.Dec.{eqb}
 use borrow.Author.Tests.{eqb-true, eqb-false, eq-eqb, ne-eqb}
 use Rattle.records.specs.Operation.{Record}
-use Rattle.volume.specs.Volume.{Volume}
-use Rattle.volume.specs.Form.{wellFormed}
-use Rattle.volume.specs.Apply.{applies, apply}
+use Rattle.search.specs.Volume.{Volume}
+use Rattle.search.specs.Form.{wellFormed}
+use Rattle.applies.specs.Apply.{applies, apply}
 use Rattle.log.specs.Order.{directlyPrecedes}
 use Rattle.log.specs.OrderLaws.{Rising, or-cases}
 use Rattle.log.specs.PartitionLaws.{applyAll, ApplyInTurn, AllFit, PrecedesNone, picked, picked-yes, picked-no, picked-in, Closed, Swap, Parted, partition}

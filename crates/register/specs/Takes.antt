@@ -1,16 +1,21 @@
 -- What programs fetch of their losses over a list of calls, told from the calls' arguments and answers.
 use Prim.Native.Nat.{ℕ}
 use mathlib.Core.Path.{_≡_}
-use mathlib.Core.List.{List, [], _∷_, _++_, List·Memᴰ}
+use mathlib.Core.List.{List, [], _∷_, _++_, map, List·Memᴰ}
 use mathlib.Core.Bool.{Bool, _&&_, cond}
 use lib.ListN.{take, getD}
 use lib.Dec.{eqb}
+use Rattle.records.specs.Fields.{encode}
 use Rattle.session.specs.Call.{Call, lookup, list, stat, read, createFile, makeDirectory, remove, rename, write, setLength, forder, push, fsync, cut, take as takeLoss, renew, Answer}
-use Rattle.register.specs.Register.{Acknowledged, isLost}
+use Rattle.register.specs.Register.{Register, Acknowledged, isLost, chosen}
+use Rattle.register.specs.Run.{Moment}
 
--- a lost operation of a program
+-- a lost operation of a program, and the records of all of them, in issue order
 abbrev pub lostBy : ℕ → Acknowledged → Bool
 lostBy p a = isLost a && eqb (a .loss .program) p
+
+abbrev pub lostRecords : ℕ → Register → List (List ℕ)
+lostRecords p r = map encode (chosen (lostBy p) (r .operations))
 
 -- what a call wrote of a program's losses, told from its arguments and its answer: the bytes that its take reports
 abbrev pub wrote : ℕ → Call → Answer → List (List ℕ)
@@ -32,10 +37,9 @@ wrote p (takeLoss q own) a = cond (eqb (a .returned) 0 && eqb q p) (take (getD (
 wrote p (renew q) a = []
 
 -- what a program's accepted takes wrote over a list of calls, in order
-unfoldable pub fetchedBy : ℕ → List Call → List Answer → List (List ℕ)
-fetchedBy p [] l = []
-fetchedBy p (c ∷ cs) [] = []
-fetchedBy p (c ∷ cs) (a ∷ l) = wrote p c a ++ fetchedBy p cs l
+unfoldable pub fetchedBy : ℕ → List Moment → List (List ℕ)
+fetchedBy p [] = []
+fetchedBy p (m ∷ ms) = wrote p (m .call) (m .answer) ++ fetchedBy p ms
 
 -- each differs from all behind it
 abbrev pub Distinct : List (List ℕ) → Type 0

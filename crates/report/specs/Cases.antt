@@ -2,7 +2,7 @@
 use mathlib.Core.Path.{_≡_, refl}
 use mathlib.Core.List.{[], _∷_}
 use mathlib.Core.Bool.{true}
-use Rattle.records.specs.Numeral.{bytes}
+use Rattle.buffer.specs.Numeral.{bytes}
 use Rattle.records.specs.Operation.{Record, forder}
 use Rattle.records.specs.Fields.{valid, validHead, validParts, validObjects, validNames, validRange, validList, allUpTo, different, member, tied, differing, inBlock, encode, headBytes, fields, objectFields, nameFields, rangeFields, pairs}
 use Rattle.report.specs.Decimal.{decimal, digits}

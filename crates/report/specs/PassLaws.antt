@@ -10,16 +10,17 @@ use lib.Dec.{leb}
 use borrow.Author.Tests.{leb-true}
 use Rattle.records.specs.declared.kind.Kind.{Kind}
 use Rattle.records.specs.declared.kind.Kind.the-variants.{CreateFile, MakeDirectory, Remove, Rename, Overwrite, Append, SetLength, Forder}
-use Rattle.records.specs.declared.reader.Whole.{Whole}
-use Rattle.records.specs.declared.reader.Reading.{Reading}
-use Rattle.records.specs.declared.reader.Reading.the-variants.{Is as RecordIs, Bad as NoRecord}
+use Rattle.reader.specs.declared.Whole.{Whole}
+use Rattle.reader.specs.declared.Reading.{Reading}
+use Rattle.reader.specs.declared.Reading.the-variants.{Is as RecordIs, Bad as NoRecord}
 use Rattle.records.specs.Kind.{codeOf}
-use Rattle.records.specs.Numeral.{Bytes}
+use Rattle.buffer.specs.Numeral.{Bytes}
 use Rattle.records.specs.Operation.{Record, kindOf}
 use Rattle.records.specs.Fields.{encode, valid, between, validHead}
-use Rattle.records.specs.Reader.{recordAt}
-use Rattle.records.specs.Answer.{wholeOf, Exact, read, refused}
-use Rattle.records.specs.ExactLaws.{exact, valid-inv, encode-length}
+use Rattle.reader.specs.Reader.{recordAt}
+use Rattle.reader.specs.Answer.{wholeOf, Exact, read, refused}
+use Rattle.reader.specs.ExactLaws.{exact}
+use Rattle.records.specs.RecordLaws.{valid-inv, encode-length}
 use Rattle.report.specs.declared.pass.State.{State}
 use Rattle.report.specs.declared.pass.State.the-variants.{Going, Done}
 use Rattle.report.specs.Put.{put}

@@ -8,11 +8,13 @@ use lib.ListN.{length, getD, take, drop, length-append, take-append-drop}
 use lib.Seq.{drop-append-add, take-append-seam, take-append-le, getD-append-add}
 use Rattle.records.specs.Operation.{Record}
 use Rattle.records.specs.Fields.{encode, valid}
-use Rattle.records.specs.declared.reader.Reading.{Reading}
-use Rattle.records.specs.Numeral.{Bytes}
-use Rattle.records.specs.Reader.{recordAt}
-use Rattle.records.specs.Answer.{Exact, read, refused}
-use Rattle.records.specs.ExactLaws.{exact, encode-length, encode-unique}
+use Rattle.reader.specs.declared.Reading.{Reading}
+use Rattle.buffer.specs.Numeral.{Bytes}
+use Rattle.reader.specs.Reader.{recordAt}
+use Rattle.reader.specs.Answer.{Exact, read, refused}
+use Rattle.records.specs.DecodeLaws.{encode-unique}
+use Rattle.reader.specs.ExactLaws.{exact}
+use Rattle.records.specs.RecordLaws.{encode-length}
 use Rattle.report.specs.declared.pass.State.{State}
 use Rattle.report.specs.declared.pass.State.the-variants.{Going, Done}
 use Rattle.report.specs.Line.{lineOf, badLine}

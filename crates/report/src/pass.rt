@@ -4,8 +4,8 @@ ghost use lib.ListN.{length};
 ghost use Rattle.report.specs.Pass.{Passed};
 use crate::line::put_bad;
 use crate::line::put_line;
-use records::reader::Place;
-use records::reader::Reading;
+use reader::Place;
+use reader::Reading;
 
 // The bytes of the longest record: where as many are at hand, whatever follows them changes nothing.
 pub const LONGEST: usize = 1040;

@@ -3,9 +3,9 @@
 use Prim.Native.Nat.{ℕ}
 use mathlib.Core.List.{List, []}
 use mathlib.Core.Bool.{Bool, _&&_}
-use lib.ListN.{length}
+use lib.ListN.{length, replicate}
 use lib.Dec.{leb, eqb}
-use Rattle.volume.specs.Stored.{volumeBytes}
+use Rattle.search.specs.Stored.{volumeBytes}
 use Rattle.log.specs.Stored.{logBytes}
 
 -- "A caller gives n objects .., b blocks a file .. and m log slots"
@@ -100,24 +100,9 @@ ownBuffer cut = []
 ownBuffer (take p s) = s
 ownBuffer (renew p) = []
 
--- the program of a call; 0 stands for none, where it is never asked: push and cut "have no program"
-abbrev pub programOf : Call → ℕ
-programOf (lookup p s) = p
-programOf (list p o s) = p
-programOf (stat p o) = p
-programOf (read p o f s) = p
-programOf (createFile p d n o) = p
-programOf (makeDirectory p d n o) = p
-programOf (remove p d n) = p
-programOf (rename p d n e k) = p
-programOf (write p o f s) = p
-programOf (setLength p o f) = p
-programOf (forder p s) = p
-programOf (push q) = 0
-programOf (fsync p o k) = p
-programOf cut = 0
-programOf (take p s) = p
-programOf (renew p) = p
+-- "The other results of a refusal are 0, and no buffer changes"
+abbrev pub refusal : ℕ → Call → Answer
+refusal n c = answer n (replicate (resultCount c) 0) (ownBuffer c)
 
 -- "n objects (2..256), b blocks a file (1..64) and m log slots (1..1,024)"
 unfoldable pub inRange : Geometry → Bool

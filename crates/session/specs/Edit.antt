@@ -1,86 +1,86 @@
--- Document 01, "Calls": create, make directory, remove, rename, write, set length and forder.
+-- Document 01, "Calls" and "Returned numbers": the changes and forder, each a table of refusals.
 use Prim.Native.Nat.{ℕ, _+_, _*_, _%_}
-use mathlib.Core.List.{List, [], _∷_}
+use mathlib.Core.List.{List, [], _∷_, _++_}
 use mathlib.Core.Bool.{Bool, false, not, _&&_, _||_}
 use mathlib.Core.Option.{Option, none, some}
 use lib.ListN.{length}
 use lib.Dec.{ltb, eqb}
+use Rattle.returned.specs.Returned
 use Rattle.names.specs.Name.{nameTextOf}
-use Rattle.records.specs.Fields.{different}
-use Rattle.records.specs.Reader.{objectsOf}
+use Rattle.records.specs.Fields.{different, objectsOf}
 use Rattle.entry.specs.Entry.{isUsed, isFile, isDirectory, kindNumber, contentsOf}
-use Rattle.volume.specs.Volume.{Volume, entryAt, search, hasChildren}
-use Rattle.volume.specs.Apply.{isAbsent}
-use Rattle.session.specs.Call.{Geometry, Call, remove, rename, write, setLength, forder}
-use Rattle.session.specs.Issue.{objectOr0, displacedBy, issues}
-use Rattle.session.specs.Refusal.{Row, row, firstOf}
-use Rattle.session.specs.Model.{Model, Outcome, unless, badProgram, marked, isBad, isLong, outside, isFree, full, spent, issued}
+use Rattle.search.specs.Volume.{Volume, entryAt, search, hasChildren}
+use Rattle.applies.specs.Apply.{isAbsent}
+use Rattle.log.specs.Order.{any}
+use Rattle.session.specs.Call.{Geometry, Call, createFile, remove, rename, write, setLength, forder, Answer, answer}
+use Rattle.session.specs.Issue.{displaced, issues}
+use Rattle.session.specs.Refusal.{Row, row}
+use Rattle.session.specs.Model.{Model, unless, badProgram, isMarked, isBad, isLong, outside, isFree, noSlots, noNumbers}
 
--- a change is refused by its table, or issues its operations
-abbrev pub changed : Call → ℕ → List Row → Model → Outcome
-changed c p rows x = unless (firstOf (badProgram p ∷ marked (x .log) p ∷ rows)) 1 [] x (issued p (issues (x .view) c) x)
+-- room for what the call issues: "m slots used", "next number is 4,294,967,295"
+abbrev pub roomRows : Geometry → Call → Model → List Row
+roomRows g c x =
+    let k = length (issues (x .view) c) in
+    noSlots g (x .log) k ∷ noNumbers (x .log) k ∷ []
+
+-- a change is refused by its table, or "gives its sequence number"
+abbrev pub changed : Geometry → Call → ℕ → List Row → Model → Answer
+changed g c p rows x = unless c (badProgram p ∷ isMarked (x .log) p ∷ (rows ++ roomRows g c x)) (answer Returned.accepted (x .log .next ∷ []) [])
 
 -- "Create and make directory take an unused object number from the caller."
-unfoldable pub makeOf : Geometry → Call → ℕ → ℕ → List ℕ → ℕ → Model → Outcome
-makeOf g c p d n o x =
-    let v = x .view in
-    changed c p
-    (row 5 (isBad (nameTextOf n))
-    ∷ row 6 (isLong (nameTextOf n))
-    ∷ row 7 (outside v d || (outside v o || eqb o 0))
-    ∷ row 8 (isFree v d)
-    ∷ row 9 (not (isDirectory (entryAt v d)))
-    ∷ row 10 (not (isAbsent (search v d n)) || isUsed (entryAt v o))
-    ∷ full g (x .log)
-    ∷ spent (x .log)
-    ∷ [])
-    x
+abbrev pub makeRows : Volume → ℕ → List ℕ → ℕ → List Row
+makeRows v d n o =
+    row Returned.badName (isBad (nameTextOf n))
+    ∷ row Returned.longName (isLong (nameTextOf n))
+    ∷ row Returned.badNumber (outside v d || (outside v o || eqb o 0))
+    ∷ row Returned.noObject (isFree v d)
+    ∷ row Returned.wrongKind (not (isDirectory (entryAt v d)))
+    ∷ row Returned.taken (not (isAbsent (search v d n)) || isUsed (entryAt v o))
+    ∷ []
+
+unfoldable pub makeOf : Geometry → Call → ℕ → ℕ → List ℕ → ℕ → Model → Answer
+makeOf g c p d n o x = changed g c p (makeRows (x .view) d n o) x
+
+-- what is asked of an object where one was found
+abbrev pub ofFound : Option ℕ → (ℕ → Bool) → Bool
+ofFound none f = false
+ofFound (some o) f = f o
 
 -- "Remove takes a file or empty directory."
-unfoldable pub removeOf : Geometry → ℕ → ℕ → List ℕ → Model → Outcome
-removeOf g p d n x =
-    let v = x .view in
-    let o = objectOr0 (search v d n) in
-    changed (remove p d n) p
-    (row 5 (isBad (nameTextOf n))
-    ∷ row 6 (isLong (nameTextOf n))
-    ∷ row 7 (outside v d)
-    ∷ row 8 (isFree v d || (isDirectory (entryAt v d) && isAbsent (search v d n)))
-    ∷ row 9 (not (isDirectory (entryAt v d)))
-    ∷ row 11 (hasChildren v o)
-    ∷ full g (x .log)
-    ∷ spent (x .log)
-    ∷ [])
-    x
+abbrev pub removeRows : Volume → ℕ → List ℕ → List Row
+removeRows v d n =
+    row Returned.badName (isBad (nameTextOf n))
+    ∷ row Returned.longName (isLong (nameTextOf n))
+    ∷ row Returned.badNumber (outside v d)
+    ∷ row Returned.noObject (isFree v d || (isDirectory (entryAt v d) && isAbsent (search v d n)))
+    ∷ row Returned.wrongKind (not (isDirectory (entryAt v d)))
+    ∷ row Returned.notEmpty (ofFound (search v d n) (hasChildren v))
+    ∷ []
 
-abbrev pub differsInKind : Volume → ℕ → Option ℕ → Bool
-differsInKind v o none = false
-differsInKind v o (some i) = not (eqb (kindNumber (entryAt v i)) (kindNumber (entryAt v o)))
+unfoldable pub removeOf : Geometry → ℕ → ℕ → List ℕ → Model → Answer
+removeOf g p d n x = changed g (remove p d n) p (removeRows (x .view) d n) x
 
-abbrev pub keepsChildren : Volume → Option ℕ → Bool
-keepsChildren v none = false
-keepsChildren v (some i) = hasChildren v i
+-- "A directory stays in its parent"; "file for directory or the reverse": the object and what it displaces are of one kind
+abbrev pub wrongRename : Volume → ℕ → ℕ → List ℕ → ℕ → Bool
+wrongRename v d e k o =
+    (isDirectory (entryAt v o) && not (eqb d e))
+    || ofFound (displaced o (search v e k)) (λ i. not (eqb (kindNumber (entryAt v i)) (kindNumber (entryAt v o))))
 
 -- "Rename replaces a file by a file or an empty directory by a directory. A directory stays in its parent. Renaming to the
 -- same name is logged with map 55 and changes nothing." 8 and 9 are judged on what can be judged over both sides.
-unfoldable pub renameOf : Geometry → ℕ → ℕ → List ℕ → ℕ → List ℕ → Model → Outcome
-renameOf g p d n e k x =
-    let v = x .view in
-    let o = objectOr0 (search v d n) in
-    let t = displacedBy o (search v e k) in
-    changed (rename p d n e k) p
-    (row 5 (isBad (nameTextOf n) || isBad (nameTextOf k))
-    ∷ row 6 (isLong (nameTextOf n) || isLong (nameTextOf k))
-    ∷ row 7 (outside v d || outside v e)
-    ∷ row 8 ((isFree v d || isFree v e) || (isDirectory (entryAt v d) && isAbsent (search v d n)))
-    ∷ row 9
-    ((not (isDirectory (entryAt v d)) || not (isDirectory (entryAt v e)))
-    || ((isDirectory (entryAt v o) && not (eqb d e)) || differsInKind v o t))
-    ∷ row 11 (keepsChildren v t)
-    ∷ full g (x .log)
-    ∷ spent (x .log)
-    ∷ [])
-    x
+abbrev pub renameRows : Volume → ℕ → List ℕ → ℕ → List ℕ → List Row
+renameRows v d n e k =
+    row Returned.badName (isBad (nameTextOf n) || isBad (nameTextOf k))
+    ∷ row Returned.longName (isLong (nameTextOf n) || isLong (nameTextOf k))
+    ∷ row Returned.badNumber (outside v d || outside v e)
+    ∷ row Returned.noObject ((isFree v d || isFree v e) || (isDirectory (entryAt v d) && isAbsent (search v d n)))
+    ∷ row Returned.wrongKind
+    ((not (isDirectory (entryAt v d)) || not (isDirectory (entryAt v e))) || ofFound (search v d n) (wrongRename v d e k))
+    ∷ row Returned.notEmpty (ofFound (search v d n) (λ o. ofFound (displaced o (search v e k)) (hasChildren v)))
+    ∷ []
+
+unfoldable pub renameOf : Geometry → ℕ → ℕ → List ℕ → ℕ → List ℕ → Model → Answer
+renameOf g p d n e k x = changed g (rename p d n e k) p (renameRows (x .view) d n e k) x
 
 -- "write of 0 bytes, across blocks or the end of file, beyond length or b"
 abbrev pub badRange : ℕ → ℕ → ℕ → ℕ → Bool
@@ -88,39 +88,24 @@ badRange b len f n =
     (eqb n 0 || ltb 1024 (f % 1024 + n))
     || ((ltb len f || (ltb f len && ltb len (f + n))) || ltb (1024 * b) (f + n))
 
+-- a file by its number: 7, 8, 9
+abbrev pub fileRows : Volume → ℕ → List Row → List Row
+fileRows v o l =
+    row Returned.badNumber (outside v o) ∷ row Returned.noObject (isFree v o) ∷ row Returned.wrongKind (not (isFile (entryAt v o))) ∷ l
+
 -- "Write lies in one block: wholly inside the length (overwrite) or beginning at the length (append)."
-unfoldable pub writeOf : Geometry → ℕ → ℕ → ℕ → List ℕ → Model → Outcome
-writeOf g p o f s x =
-    let v = x .view in
-    let len = length (contentsOf (entryAt v o)) in
-    changed (write p o f s) p
-    (row 7 (outside v o)
-    ∷ row 8 (isFree v o)
-    ∷ row 9 (not (isFile (entryAt v o)))
-    ∷ row 12 (badRange (g .blocks) len f (length s))
-    ∷ full g (x .log)
-    ∷ spent (x .log)
-    ∷ [])
-    x
+abbrev pub writeRows : ℕ → Volume → ℕ → ℕ → List ℕ → List Row
+writeRows b v o f s = fileRows v o (row Returned.badRange (badRange b (length (contentsOf (entryAt v o))) f (length s)) ∷ [])
+
+unfoldable pub writeOf : Geometry → ℕ → ℕ → ℕ → List ℕ → Model → Answer
+writeOf g p o f s x = changed g (write p o f s) p (writeRows (g .blocks) (x .view) o f s) x
 
 -- "length over b × 1,024"
-unfoldable pub setLengthOf : Geometry → ℕ → ℕ → ℕ → Model → Outcome
-setLengthOf g p o f x =
-    let v = x .view in
-    changed (setLength p o f) p
-    (row 7 (outside v o)
-    ∷ row 8 (isFree v o)
-    ∷ row 9 (not (isFile (entryAt v o)))
-    ∷ row 12 (ltb (1024 * g .blocks) f)
-    ∷ full g (x .log)
-    ∷ spent (x .log)
-    ∷ [])
-    x
+abbrev pub lengthRows : ℕ → Volume → ℕ → ℕ → List Row
+lengthRows b v o f = fileRows v o (row Returned.badRange (ltb (1024 * b) f) ∷ [])
 
--- some object of a list passes a test
-unfoldable pub any : (ℕ → Bool) → List ℕ → Bool
-any f [] = false
-any f (o ∷ l) = f o || any f l
+unfoldable pub setLengthOf : Geometry → ℕ → ℕ → ℕ → Model → Answer
+setLengthOf g p o f x = changed g (setLength p o f) p (lengthRows (g .blocks) (x .view) o f) x
 
 -- "a length of 0, odd or over 16, or an object named twice, is a bad list"
 abbrev pub badList : Volume → List ℕ → Bool
@@ -129,9 +114,8 @@ badList v s =
     || (not (different (objectsOf s)) || any (outside v) (objectsOf s))
 
 -- "(forder's change to the view is none)"
-unfoldable pub forderOf : Geometry → ℕ → List ℕ → Model → Outcome
-forderOf g p s x =
-    let v = x .view in
-    changed (forder p s) p
-    (row 7 (badList v s) ∷ row 8 (any (isFree v) (objectsOf s)) ∷ full g (x .log) ∷ spent (x .log) ∷ [])
-    x
+abbrev pub forderRows : Volume → List ℕ → List Row
+forderRows v s = row Returned.badNumber (badList v s) ∷ row Returned.noObject (any (isFree v) (objectsOf s)) ∷ []
+
+unfoldable pub forderOf : Geometry → ℕ → List ℕ → Model → Answer
+forderOf g p s x = changed g (forder p s) p (forderRows (x .view) s) x

@@ -3,7 +3,7 @@ use Prim.Native.Nat.{ℕ, zero, suc, _+_, _*_, _%_, _≤_, _<_}
 use native.Mathlib.Omega.{arith}
 use mathlib.Core.Path.{_≡_, refl, sym, ap, _∙_, subst}
 use mathlib.Core.Logic.{_⊎_, inl, inr}
-use mathlib.Core.List.{List, [], _∷_}
+use mathlib.Core.List.{List, [], _∷_, _++_}
 use mathlib.Core.Bool.{Bool, true, false, not, _&&_, _||_, cond, and-eq-true-iff}
 use mathlib.Core.Option.{Option, none, some}
 use lib.ListN.{length}
@@ -14,40 +14,23 @@ use Rattle.names.specs.declared.NameText.the-variants.{Fine, Bad, Long}
 use Rattle.names.specs.Name.{validName, nameTextOf}
 use Rattle.names.specs.NameLaws.{fine-valid}
 use Rattle.records.specs.Operation.{Operation}
-use Rattle.records.specs.Fields.{validList, different, allUpTo, allBelow}
-use Rattle.records.specs.Reader.{objectsOf}
+use Rattle.records.specs.Fields.{validList, different, allUpTo, allBelow, objectsOf}
 use Rattle.records.specs.ListLaws.{count-objects}
 use Rattle.entry.specs.Entry.{directory, isUsed, isFile, isDirectory, kindNumber, contentsOf}
-use Rattle.volume.specs.Volume.{Volume, entryAt, search, isChild, isNamed}
-use Rattle.volume.specs.Form.{wellFormed}
-use Rattle.volume.specs.FormLaws.{well-formed-inv, lowest-some}
-use Rattle.volume.specs.Apply.{applies, isAbsent, isAt, hasRoom, yields}
-use Rattle.log.specs.Programs.{holds}
-use Rattle.log.specs.Slot.{Log}
-use Rattle.log.specs.Slot
-use Rattle.log.specs.SlotLaws.{formed-inv}
+use Rattle.search.specs.Volume.{Volume, entryAt, search, hasChildren, isChild, isNamed}
+use Rattle.search.specs.Form.{wellFormed}
+use Rattle.search.specs.FormLaws.{well-formed-inv, lowest-some}
+use Rattle.applies.specs.Apply.{applies, isAbsent, isAt, hasRoom, yields}
+use Rattle.log.specs.Order.{any}
 use Rattle.session.specs.Call.{Geometry, Call, createFile, makeDirectory, remove, rename, write, setLength, forder, inRange}
-use Rattle.session.specs.Refusal.{Row, firstOf}
-use Rattle.session.specs.Model.{Model, badProgram, marked, isBad, isLong, outside, isFree, full, spent, issued}
-use Rattle.session.specs.Issue.{objectOr0, displacedBy, writes, renames, issues}
-use Rattle.session.specs.Edit.{changed, makeOf, removeOf, renameOf, writeOf, setLengthOf, forderOf, differsInKind, keepsChildren, badRange, any}
-use Rattle.session.specs.RefusalLaws.{Passed, numbered, passed, accepted-first, neither}
+use Rattle.session.specs.Refusal.{Row}
+use Rattle.session.specs.Model.{Model, badProgram, isMarked, isBad, isLong, outside, isFree}
+use Rattle.session.specs.Issue.{displaced, onFound, writes, issues}
+use Rattle.session.specs.Edit.{roomRows, changed, makeRows, makeOf, removeRows, removeOf, renameRows, renameOf, writeRows, writeOf, lengthRows, setLengthOf, forderRows, forderOf, ofFound, wrongRename, badRange}
+use Rattle.session.specs.RefusalLaws.{Passed, numbered, passed, accepted-passes, neither}
 use Rattle.session.specs.IssueLaws.{Recordable, EntryFields, RangeFields, create-recordable, make-recordable, remove-recordable, rename-recordable, replace-recordable, overwrite-recordable, append-recordable, length-recordable, forder-recordable}
-
--- the three buffers store a well-formed view, server volume and log of a geometry in range
-pub record Sound (g : Geometry) (x : Model) : Type 0 where
-  pub range : inRange g ≡ true
-  pub server : wellFormed (g .objects) (g .blocks) (x .server) ≡ true
-  pub view : wellFormed (g .objects) (g .blocks) (x .view) ≡ true
-  pub log : Slot.wellFormed (g .objects) (g .blocks) (g .capacity) (x .log) ≡ true
-
--- what an accepted change has: a program, room and a number, and an operation that applies and can be recorded
-pub record Issuable (g : Geometry) (x : Model) (p : ℕ) (o : Operation) : Type 0 where
-  pub program : p < 32
-  pub fit : applies (x .view) o ≡ true
-  pub recordable : Recordable (g .objects) (g .blocks) o
-  pub room : length (x .log .slots) < g .capacity
-  pub number : x .log .next < 4294967295
+use Rattle.session.specs.PossibleLaws.{Sound}
+use Rattle.session.specs.IssuingLaws.{Issuing}
 
 pub objects-few : (g : Geometry) → inRange g ≡ true → g .objects ≤ 256
 unfolding inRange
@@ -78,9 +61,9 @@ used : (v : Volume) (o : ℕ) → isFree v o ≡ false → isUsed (entryAt v o) 
 used v o h = not-false _ h
 
 -- a search that is not absent found something
-found-one : (o : Option ℕ) → isAbsent o ≡ false → o ≡ some (objectOr0 o)
+found-one : (o : Option ℕ) → isAbsent o ≡ false → (i : ℕ) × (o ≡ some i)
 found-one none h = let z : _≡_ {A = ℕ} 0 1 = cc in absurd (omega arith)
-found-one (some i) h = refl
+found-one (some i) h = (i, refl)
 
 at-found : (i : ℕ) → isAt i (some i) ≡ true
 at-found i = eq-eqb i i refl
@@ -96,22 +79,12 @@ search-inside v d n i e =
     (omega arith, l .0)
 
 -- an accepted change: its program is good, and no row of its table holds
-change-passed : (c : Call) (p : ℕ) (rows : List Row) (x : Model) → numbered rows ≡ true → changed c p rows x .gives .returned ≡ 0
-    → (p < 32) × Passed rows
-change-passed c p rows x n e =
-    let z = accepted-first (firstOf (badProgram p ∷ marked (x .log) p ∷ rows)) 1 [] x (issued p (issues (x .view) c) x) e in
-    let a = passed (badProgram p ∷ marked (x .log) p ∷ rows) n z in
+change-passed : (g : Geometry) (c : Call) (p : ℕ) (rows : List Row) (x : Model) → numbered (rows ++ roomRows g c x) ≡ true → changed g c p rows x .returned ≡ 0
+    → (p < 32) × Passed (rows ++ roomRows g c x)
+change-passed g c p rows x n e =
+    let z = accepted-passes c (badProgram p ∷ isMarked (x .log) p ∷ (rows ++ roomRows g c x)) _ e in
+    let a = passed (badProgram p ∷ isMarked (x .log) p ∷ (rows ++ roomRows g c x)) n (z .0) in
     (ltb-true p 32 (not-false _ (a .0)), a .1 .1)
-
--- the last two rows: a slot is free, and a number is left
-slot-free : (g : Geometry) (l : Log) → full g l .holds ≡ false → length (l .slots) < g .capacity
-slot-free g l h = leb-false _ _ h
-
-number-left : (g : Geometry) (x : Model) → Sound g x → Row.holds (spent (x .log)) ≡ false → x .log .next < 4294967295
-number-left g x s h =
-    let k = formed-inv (g .objects) (g .blocks) (g .capacity) (x .log) (s .log) .in-four in
-    let n : x .log .next ≡ 4294967295 → ⊥ = eqb-false (x .log .next) 4294967295 h in
-    omega arith
 
 module _ (g : Geometry) (x : Model) (s : Sound g x) where
   few : g .objects ≤ 256
@@ -138,11 +111,11 @@ module _ (g : Geometry) (x : Model) (s : Sound g x) where
       go (suc i) k = omega arith
 
   -- create file and make directory
-  make-fit : (p d : ℕ) (n : List ℕ) (o : ℕ) (c : Call) → makeOf g c p d n o x .gives .returned ≡ 0
-      → (p < 32) × EntryFields (g .objects) o d n × (hasRoom (x .view) o d n ≡ true) × (length (x .log .slots) < g .capacity) × (x .log .next < 4294967295)
+  make-fit : (p d : ℕ) (n : List ℕ) (o : ℕ) (c : Call) → length (issues (x .view) c) ≡ 1 → makeOf g c p d n o x .returned ≡ 0
+      → (p < 32) × EntryFields (g .objects) o d n × (hasRoom (x .view) o d n ≡ true) × (length (x .log .slots) + 1 ≤ g .capacity) × (x .log .next + 1 ≤ 4294967295)
   unfolding makeOf
-  make-fit p d n o c e =
-      let a = change-passed c p _ x refl e in
+  make-fit p d n o c one e =
+      let a = change-passed g c p (makeRows (x .view) d n o) x refl e in
       let r = a .1 in
       let n₇ = neither (outside (x .view) d) (outside (x .view) o || eqb o 0) (r .1 .1 .0) in
       let n₇' = neither (outside (x .view) o) (eqb o 0) (n₇ .1) in
@@ -150,59 +123,67 @@ module _ (g : Geometry) (x : Model) (s : Sound g x) where
       let z : o ≡ 0 → ⊥ = eqb-false o 0 (n₇' .1) in
       let dir : isDirectory (entryAt (x .view) d) ≡ true = not-false _ (r .1 .1 .1 .1 .0) in
       let absent : isAbsent (search (x .view) d n) ≡ true = not-false _ (n₁₀ .0) in
-      let oin : o < length (x .view) = inside (x .view) o (n₇' .0) in (
+      let oin : o < length (x .view) = inside (x .view) o (n₇' .0) in
+      let room : length (x .log .slots) + length (issues (x .view) c) ≤ g .capacity = ltb-false _ _ (r .1 .1 .1 .1 .1 .1 .0) in
+      let number : x .log .next + length (issues (x .view) c) ≤ 4294967295 = ltb-false _ _ (r .1 .1 .1 .1 .1 .1 .1 .0) in (
         a .0,
         record { low = omega arith; object = below o (n₇' .0); parent = below d (n₇ .0); text = text-fine n (r .0) (r .1 .0) },
         rw (dir, absent, lt-ltb o (length (x .view)) oin, n₁₀ .1),
-        slot-free g (x .log) (r .1 .1 .1 .1 .1 .1 .0),
-        number-left g x s (r .1 .1 .1 .1 .1 .1 .1 .0),
+        omega arith,
+        omega arith,
       )
 
-  pub create-accepted : (p d : ℕ) (n : List ℕ) (o : ℕ) (c : Call) → makeOf g c p d n o x .gives .returned ≡ 0 → Issuable g x p (Operation.createFile o d n)
+  pub create-accepted : (p d : ℕ) (n : List ℕ) (o : ℕ) → makeOf g (createFile p d n o) p d n o x .returned ≡ 0 → Issuing g x p (Operation.createFile o d n ∷ [])
   unfolding applies
-  create-accepted p d n o c e =
-      let f = make-fit p d n o c e in
-      record { program = f .0; fit = f .2; recordable = create-recordable (g .objects) (g .blocks) few o d n (f .1); room = f .3; number = f .4 }
+  create-accepted p d n o e =
+      let f = make-fit p d n o (createFile p d n o) refl e in
+      record { program = f .0; fit = (f .2, create-recordable (g .objects) (g .blocks) few o d n (f .1), tt); room = f .3; number = f .4 }
 
-  pub make-accepted : (p d : ℕ) (n : List ℕ) (o : ℕ) (c : Call) → makeOf g c p d n o x .gives .returned ≡ 0 → Issuable g x p (Operation.makeDirectory o d n)
+  pub make-accepted : (p d : ℕ) (n : List ℕ) (o : ℕ) → makeOf g (makeDirectory p d n o) p d n o x .returned ≡ 0 → Issuing g x p (Operation.makeDirectory o d n ∷ [])
   unfolding applies
-  make-accepted p d n o c e =
-      let f = make-fit p d n o c e in
-      record { program = f .0; fit = f .2; recordable = make-recordable (g .objects) (g .blocks) few o d n (f .1); room = f .3; number = f .4 }
+  make-accepted p d n o e =
+      let f = make-fit p d n o (makeDirectory p d n o) refl e in
+      record { program = f .0; fit = (f .2, make-recordable (g .objects) (g .blocks) few o d n (f .1), tt); room = f .3; number = f .4 }
 
-  pub remove-accepted : (p d : ℕ) (n : List ℕ) → removeOf g p d n x .gives .returned ≡ 0 → Issuable g x p (Operation.remove (objectOr0 (search (x .view) d n)) d n)
-  unfolding removeOf applies
+  -- what was found and has no children may be removed
+  removed-fit : (d : ℕ) (n : List ℕ) (o : ℕ) → isDirectory (entryAt (x .view) d) ≡ true → search (x .view) d n ≡ some o → hasChildren (x .view) o ≡ false
+      → applies (x .view) (Operation.remove o d n) ≡ true
+  unfolding applies
+  removed-fit d n o dir is kids = rw (dir, is, at-found o, kids)
+
+  -- what an accepted remove found
+  pub remove-accepted : (p d : ℕ) (n : List ℕ) → removeOf g p d n x .returned ≡ 0
+      → (o : ℕ) × (search (x .view) d n ≡ some o) × Issuing g x p (Operation.remove o d n ∷ [])
+  unfolding removeOf
   remove-accepted p d n e =
       let v = x .view in
-      let o = objectOr0 (search v d n) in
-      let a = change-passed (remove p d n) p _ x refl e in
+      let a = change-passed g (remove p d n) p (removeRows (x .view) d n) x refl e in
       let r = a .1 in
       let n₈ = neither (isFree v d) (isDirectory (entryAt v d) && isAbsent (search v d n)) (r .1 .1 .1 .0) in
       let dir : isDirectory (entryAt v d) ≡ true = not-false _ (r .1 .1 .1 .1 .0) in
       let there : isAbsent (search v d n) ≡ false = rw dir at (n₈ .1) in
-      let is : search v d n ≡ some o = found-one (search v d n) there in
+      let one = found-one (search v d n) there in
+      let o = one .0 in
+      let is = one .1 in
+      let kids : hasChildren v o ≡ false = ap (λ (f : Option ℕ). ofFound f (hasChildren v)) (sym is) ∙ r .1 .1 .1 .1 .1 .0 in
+      let count : length (issues v (remove p d n)) ≡ 1 = ap (λ (f : Option ℕ). length (onFound f (λ i. Operation.remove i d n))) is in
+      let room : length (x .log .slots) + length (issues v (remove p d n)) ≤ g .capacity = ltb-false _ _ (r .1 .1 .1 .1 .1 .1 .0) in
+      let number : x .log .next + length (issues v (remove p d n)) ≤ 4294967295 = ltb-false _ _ (r .1 .1 .1 .1 .1 .1 .1 .0) in
       let f : EntryFields (g .objects) o d n =
       record { low = search-inside v d n o is .0; object = found-below d n o is; parent = below d (r .1 .1 .0); text = text-fine n (r .0) (r .1 .0) } in
-      record {
-        program = a .0;
-        fit = rw (dir, is, at-found o, r .1 .1 .1 .1 .1 .0);
-        recordable = remove-recordable (g .objects) (g .blocks) few o d n f;
-        room = slot-free g (x .log) (r .1 .1 .1 .1 .1 .1 .0);
-        number = number-left g x s (r .1 .1 .1 .1 .1 .1 .1 .0);
-      }
+      (o, is, record { program = a .0; fit = (removed-fit d n o dir is kids, remove-recordable (g .objects) (g .blocks) few o d n f, tt); room = omega arith; number = omega arith })
 
-  pub length-accepted : (p o f : ℕ) → setLengthOf g p o f x .gives .returned ≡ 0 → Issuable g x p (Operation.setLength o f)
+  pub length-accepted : (p o f : ℕ) → setLengthOf g p o f x .returned ≡ 0 → Issuing g x p (Operation.setLength o f ∷ [])
   unfolding setLengthOf applies
   length-accepted p o f e =
-      let a = change-passed (setLength p o f) p _ x refl e in
+      let a = change-passed g (setLength p o f) p (lengthRows (g .blocks) (x .view) o f) x refl e in
       let r = a .1 in
       let isf : isFile (entryAt (x .view) o) ≡ true = not-false _ (r .1 .1 .0) in
       record {
         program = a .0;
-        fit = isf;
-        recordable = length-recordable (g .objects) (g .blocks) few (blocks-few g (s .range)) o f (not-root o isf) (below o (r .0)) (ltb-false _ _ (r .1 .1 .1 .0));
-        room = slot-free g (x .log) (r .1 .1 .1 .1 .0);
-        number = number-left g x s (r .1 .1 .1 .1 .1 .0);
+        fit = (isf, length-recordable (g .objects) (g .blocks) few (blocks-few g (s .range)) o f (not-root o isf) (below o (r .0)) (ltb-false _ _ (r .1 .1 .1 .0)), tt);
+        room = ltb-false _ _ (r .1 .1 .1 .1 .0);
+        number = ltb-false _ _ (r .1 .1 .1 .1 .1 .0);
       }
 
   -- the range of an accepted write: some bytes in one block, beginning at the length or ending within it
@@ -222,37 +203,29 @@ module _ (g : Geometry) (x : Model) (s : Sound g x) where
       where-it-lies false e n l = let m : len ≤ f = ltb-false f len e in inl (omega arith)
 
   -- an accepted write is an append or an overwrite, each with its range
-  written-one : (p o f : ℕ) (d : List ℕ) → p < 32 → RangeFields (g .objects) (g .blocks) few o f d → isFile (entryAt (x .view) o) ≡ true
-      → length (x .log .slots) < g .capacity → x .log .next < 4294967295
+  written-one : (o f : ℕ) (d : List ℕ) → RangeFields (g .objects) (g .blocks) few o f d → isFile (entryAt (x .view) o) ≡ true
       → (f ≡ length (contentsOf (entryAt (x .view) o))) ⊎ (f + length d ≤ length (contentsOf (entryAt (x .view) o)))
-      → (b : Bool) → eqb f (length (contentsOf (entryAt (x .view) o))) ≡ b → Issuable g x p (cond b (Operation.append o f d) (Operation.overwrite o f d))
+      → (b : Bool) → eqb f (length (contentsOf (entryAt (x .view) o))) ≡ b
+      → (applies (x .view) (cond b (Operation.append o f d) (Operation.overwrite o f d)) ≡ true) × Recordable (g .objects) (g .blocks) (cond b (Operation.append o f d) (Operation.overwrite o f d))
   unfolding applies
-  written-one p o f d h r isf room number lies true t =
-      record { program = h; fit = rw (isf, t); recordable = append-recordable (g .objects) (g .blocks) few (blocks-few g (s .range)) o f d r; room = room; number = number }
-  written-one p o f d h r isf room number lies false t =
-      record {
-        program = h;
-        fit = rw (isf, le-leb (f + length d) (length (contentsOf (entryAt (x .view) o))) (inner lies));
-        recordable = overwrite-recordable (g .objects) (g .blocks) few (blocks-few g (s .range)) o f d r;
-        room = room;
-        number = number;
-      }
+  written-one o f d r isf lies true t = (rw (isf, t), append-recordable (g .objects) (g .blocks) few (blocks-few g (s .range)) o f d r)
+  written-one o f d r isf lies false t =
+      (rw (isf, le-leb (f + length d) (length (contentsOf (entryAt (x .view) o))) (inner lies)), overwrite-recordable (g .objects) (g .blocks) few (blocks-few g (s .range)) o f d r)
     where
       inner : (f ≡ length (contentsOf (entryAt (x .view) o))) ⊎ (f + length d ≤ length (contentsOf (entryAt (x .view) o))) → f + length d ≤ length (contentsOf (entryAt (x .view) o))
       inner (inl e) = absurd (eqb-false _ _ t e)
       inner (inr k) = k
 
-  pub write-accepted : (p o f : ℕ) (d : List ℕ) → writeOf g p o f d x .gives .returned ≡ 0 → Issuable g x p (writes (x .view) o f d)
+  pub write-accepted : (p o f : ℕ) (d : List ℕ) → writeOf g p o f d x .returned ≡ 0 → Issuing g x p (writes (x .view) o f d ∷ [])
   unfolding writeOf
   write-accepted p o f d e =
       let len = length (contentsOf (entryAt (x .view) o)) in
-      let a = change-passed (write p o f d) p _ x refl e in
+      let a = change-passed g (write p o f d) p (writeRows (g .blocks) (x .view) o f d) x refl e in
       let r = a .1 in
       let isf : isFile (entryAt (x .view) o) ≡ true = not-false _ (r .1 .1 .0) in
       let w = write-range f (length d) len (r .1 .1 .1 .0) in
-      written-one p o f d (a .0)
-      (record { low = not-root o isf; object = below o (r .0); some = w .0; oneBlock = w .1; within = w .4 })
-      isf (slot-free g (x .log) (r .1 .1 .1 .1 .0)) (number-left g x s (r .1 .1 .1 .1 .1 .0)) (w .3) (eqb f len) refl
+      let y = written-one o f d (record { low = not-root o isf; object = below o (r .0); some = w .0; oneBlock = w .1; within = w .4 }) isf (w .3) (eqb f len) refl in
+      record { program = a .0; fit = (y .0, y .1, tt); room = ltb-false _ _ (r .1 .1 .1 .1 .0); number = ltb-false _ _ (r .1 .1 .1 .1 .1 .0) }
 
   -- no object of a list is outside: each is below n
   all-below : (l : List ℕ) → any (outside (x .view)) l ≡ false → allBelow (g .objects) l ≡ true
@@ -271,11 +244,11 @@ module _ (g : Geometry) (x : Model) (s : Sound g x) where
       let f = few in
       rw (le-leb o 255 (omega arith)) (all-small l (a .1))
 
-  pub forder-accepted : (p : ℕ) (d : List ℕ) → forderOf g p d x .gives .returned ≡ 0 → Issuable g x p (Operation.forder (objectsOf d))
+  pub forder-accepted : (p : ℕ) (d : List ℕ) → forderOf g p d x .returned ≡ 0 → Issuing g x p (Operation.forder (objectsOf d) ∷ [])
   unfolding forderOf applies validList
   forder-accepted p d e =
       let l = objectsOf d in
-      let a = change-passed (forder p d) p _ x refl e in
+      let a = change-passed g (forder p d) p (forderRows (x .view) d) x refl e in
       let r = a .1 in
       let n₁ = neither (eqb (length d) 0 || (eqb (length d % 2) 1 || ltb 16 (length d))) (not (different l) || any (outside (x .view)) l) (r .0) in
       let n₂ = neither (eqb (length d) 0) (eqb (length d % 2) 1 || ltb 16 (length d)) (n₁ .0) in
@@ -289,21 +262,22 @@ module _ (g : Geometry) (x : Model) (s : Sound g x) where
       let good : validList l ≡ true = rw (le-leb 1 (length l) (omega arith), le-leb (length l) 8 (omega arith), all-small l b) (not-false _ (n₄ .0)) in
       record {
         program = a .0;
-        fit = refl;
-        recordable = forder-recordable (g .objects) (g .blocks) few l good b;
-        room = slot-free g (x .log) (r .1 .1 .0);
-        number = number-left g x s (r .1 .1 .1 .0);
+        fit = (refl, forder-recordable (g .objects) (g .blocks) few l good b, tt);
+        room = ltb-false _ _ (r .1 .1 .0);
+        number = ltb-false _ _ (r .1 .1 .1 .0);
       }
 
   -- what a rename displaces: nothing, or the one that its second name leads to, of the same kind and with no children
   displaced-fit : (o d e : ℕ) (n k : List ℕ) → EntryFields (g .objects) o d n → e < g .objects → validName k ≡ true
-      → (f : Option ℕ) → search (x .view) e k ≡ f → differsInKind (x .view) o (displacedBy o f) ≡ false → keepsChildren (x .view) (displacedBy o f) ≡ false
-      → (yields (x .view) o e (displacedBy o f) k ≡ true) × Recordable (g .objects) (g .blocks) (Operation.rename o d e (displacedBy o f) n k)
+      → (f : Option ℕ) → search (x .view) e k ≡ f
+      → ofFound (displaced o f) (λ i. not (eqb (kindNumber (entryAt (x .view) i)) (kindNumber (entryAt (x .view) o)))) ≡ false → ofFound (displaced o f) (hasChildren (x .view)) ≡ false
+      → (yields (x .view) o e (displaced o f) k ≡ true) × Recordable (g .objects) (g .blocks) (Operation.rename o d e (displaced o f) n k)
   displaced-fit o d e n k fields he hk none is kind kids =
       (rw is, rename-recordable (g .objects) (g .blocks) few o d e n k fields he hk)
   displaced-fit o d e n k fields he hk (some i) is kind kids = go (eqb i o) refl kind kids
     where
-      go : (b : Bool) → eqb i o ≡ b → differsInKind (x .view) o (cond b none (some i)) ≡ false → keepsChildren (x .view) (cond b none (some i)) ≡ false
+      go : (b : Bool) → eqb i o ≡ b
+          → ofFound (cond b none (some i)) (λ i. not (eqb (kindNumber (entryAt (x .view) i)) (kindNumber (entryAt (x .view) o)))) ≡ false → ofFound (cond b none (some i)) (hasChildren (x .view)) ≡ false
           → (yields (x .view) o e (cond b none (some i)) k ≡ true) × Recordable (g .objects) (g .blocks) (Operation.rename o d e (cond b none (some i)) n k)
       go true t a c = (rw (is, t), rename-recordable (g .objects) (g .blocks) few o d e n k fields he hk)
       go false t a c =
@@ -318,33 +292,39 @@ module _ (g : Geometry) (x : Model) (s : Sound g x) where
   stays-there true same h = not-false _ h
   stays-there false same h = refl
 
-  pub rename-accepted : (p d : ℕ) (n : List ℕ) (e : ℕ) (k : List ℕ) → renameOf g p d n e k x .gives .returned ≡ 0
-      → Issuable g x p (renames (x .view) (objectOr0 (search (x .view) d n)) d n e k)
-  unfolding renameOf applies
+  -- what was found, stays in its parent if it is a directory, and displaces what it may, may be renamed
+  renamed-fit : (d e o : ℕ) (n k : List ℕ) (t : Option ℕ) → isDirectory (entryAt (x .view) d) ≡ true → isDirectory (entryAt (x .view) e) ≡ true → search (x .view) d n ≡ some o
+      → (isDirectory (entryAt (x .view) o) && not (eqb d e)) ≡ false → yields (x .view) o e t k ≡ true → applies (x .view) (Operation.rename o d e t n k) ≡ true
+  unfolding applies
+  renamed-fit d e o n k t dir dir₂ is stay y = rw (dir, dir₂, is, at-found o, stays-there (isDirectory (entryAt (x .view) o)) (eqb d e) stay, y)
+
+  pub rename-accepted : (p d : ℕ) (n : List ℕ) (e : ℕ) (k : List ℕ) → renameOf g p d n e k x .returned ≡ 0
+      → (o : ℕ) × (search (x .view) d n ≡ some o) × Issuing g x p (Operation.rename o d e (displaced o (search (x .view) e k)) n k ∷ [])
+  unfolding renameOf
   rename-accepted p d n e k acc =
       let v = x .view in
-      let o = objectOr0 (search v d n) in
-      let t = displacedBy o (search v e k) in
-      let a = change-passed (rename p d n e k) p _ x refl acc in
+      let a = change-passed g (rename p d n e k) p (renameRows (x .view) d n e k) x refl acc in
       let r = a .1 in
       let n₅ = neither (isBad (nameTextOf n)) (isBad (nameTextOf k)) (r .0) in
       let n₆ = neither (isLong (nameTextOf n)) (isLong (nameTextOf k)) (r .1 .0) in
       let n₇ = neither (outside v d) (outside v e) (r .1 .1 .0) in
       let n₈ = neither (isFree v d || isFree v e) (isDirectory (entryAt v d) && isAbsent (search v d n)) (r .1 .1 .1 .0) in
-      let n₉ = neither (not (isDirectory (entryAt v d)) || not (isDirectory (entryAt v e))) ((isDirectory (entryAt v o) && not (eqb d e)) || differsInKind v o t) (r .1 .1 .1 .1 .0) in
+      let n₉ = neither (not (isDirectory (entryAt v d)) || not (isDirectory (entryAt v e))) (ofFound (search v d n) (wrongRename v d e k)) (r .1 .1 .1 .1 .0) in
       let m₉ = neither (not (isDirectory (entryAt v d))) (not (isDirectory (entryAt v e))) (n₉ .0) in
-      let q₉ = neither (isDirectory (entryAt v o) && not (eqb d e)) (differsInKind v o t) (n₉ .1) in
       let dir : isDirectory (entryAt v d) ≡ true = not-false _ (m₉ .0) in
       let dir₂ : isDirectory (entryAt v e) ≡ true = not-false _ (m₉ .1) in
       let there : isAbsent (search v d n) ≡ false = rw dir at (n₈ .1) in
-      let is : search v d n ≡ some o = found-one (search v d n) there in
+      let one = found-one (search v d n) there in
+      let o = one .0 in
+      let is = one .1 in
+      let t = displaced o (search v e k) in
+      let q₉ = neither (isDirectory (entryAt v o) && not (eqb d e)) (ofFound t (λ i. not (eqb (kindNumber (entryAt v i)) (kindNumber (entryAt v o)))))
+      (ap (λ (f : Option ℕ). ofFound f (wrongRename v d e k)) (sym is) ∙ n₉ .1) in
+      let kids : ofFound t (hasChildren v) ≡ false = ap (λ (f : Option ℕ). ofFound f (λ i. ofFound (displaced i (search v e k)) (hasChildren v))) (sym is) ∙ r .1 .1 .1 .1 .1 .0 in
+      let count : length (issues v (rename p d n e k)) ≡ 1 = ap (λ (f : Option ℕ). length (onFound f (λ i. Operation.rename i d e (displaced i (search v e k)) n k))) is in
+      let room : length (x .log .slots) + length (issues v (rename p d n e k)) ≤ g .capacity = ltb-false _ _ (r .1 .1 .1 .1 .1 .1 .0) in
+      let number : x .log .next + length (issues v (rename p d n e k)) ≤ 4294967295 = ltb-false _ _ (r .1 .1 .1 .1 .1 .1 .1 .0) in
       let f : EntryFields (g .objects) o d n =
       record { low = search-inside v d n o is .0; object = found-below d n o is; parent = below d (n₇ .0); text = text-fine n (n₅ .0) (n₆ .0) } in
-      let y = displaced-fit o d e n k f (below e (n₇ .1)) (text-fine k (n₅ .1) (n₆ .1)) (search v e k) refl (q₉ .1) (r .1 .1 .1 .1 .1 .0) in
-      record {
-        program = a .0;
-        fit = rw (dir, dir₂, stays-there (isDirectory (entryAt v o)) (eqb d e) (q₉ .0), y .0) (ap (λ (b : Bool). b && true) (ap (isAt o) is ∙ at-found o));
-        recordable = y .1;
-        room = slot-free g (x .log) (r .1 .1 .1 .1 .1 .1 .0);
-        number = number-left g x s (r .1 .1 .1 .1 .1 .1 .1 .0);
-      }
+      let y = displaced-fit o d e n k f (below e (n₇ .1)) (text-fine k (n₅ .1) (n₆ .1)) (search v e k) refl (q₉ .1) kids in
+      (o, is, record { program = a .0; fit = (renamed-fit d e o n k t dir dir₂ is (q₉ .0) (y .0), y .1, tt); room = omega arith; number = omega arith })

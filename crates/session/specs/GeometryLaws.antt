@@ -6,8 +6,8 @@ use mathlib.Core.List.{List}
 use Prim.Native.Nat.{ℕ}
 use lib.ListN.{length}
 use lib.Dec.{leb, eqb}
-use Rattle.volume.specs.Stored.{volumeBytes}
-use Rattle.volume.specs.Lent.{lent}
+use Rattle.search.specs.Stored.{volumeBytes}
+use Rattle.search.specs.Stored.{lent}
 use Rattle.session.specs.Call.{Geometry, inRange, serverFits}
 
 -- a test may change places with another

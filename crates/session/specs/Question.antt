@@ -1,50 +1,26 @@
--- Document 01, "Calls": lookup, list, stat and read, which "answer from the view".
+-- Document 01, "Calls": lookup, list, stat and read, which "answer from the view": what the questions answer, where the program may
+-- ask.
 use Prim.Native.Nat.{ℕ}
 use mathlib.Core.List.{List, [], _∷_}
-use mathlib.Core.Bool.{not}
-use lib.ListN.{length, take, drop}
-use lib.Dec.{ltb}
-use Rattle.names.specs.Path.{pathTextOf}
-use Rattle.entry.specs.Entry.{isDirectory, isFile, kindNumber, contentsOf, usage}
-use Rattle.volume.specs.Volume.{entryAt}
-use Rattle.questions.specs.Way.{Way, found, refused, wayOf}
-use Rattle.questions.specs.Listing.{listing, filled}
-use Rattle.session.specs.Call.{answer}
-use Rattle.session.specs.Refusal.{Row, row, firstOf}
-use Rattle.session.specs.Model.{Model, Outcome, refusedWith, unless, badProgram, marked, outside, isFree, answered}
+use Rattle.lookup.specs.Lookup.{lookupAnswer, reachedNumber, reachedResults}
+use Rattle.questions.specs.Answer.{listAnswer, listLeaves, listNumber, listResults, statAnswer, statNumber, statResults, readAnswer, readLeaves, readNumber, readResults}
+use Rattle.session.specs.Call.{Call, lookup, list, stat, read, Answer, answer}
+use Rattle.session.specs.Model.{Model, unless, badProgram, isMarked}
 
-abbrev pub followed : ℕ → Model → Way → Outcome
-followed p x (found o ops) = answered p ops (answer 0 (o ∷ []) []) x
-followed p x (refused n) = refusedWith n 1 [] x
+-- "3 Bad program", "4 Marked", then the question's own answer
+abbrev pub asked : Call → ℕ → Model → Answer → Answer
+asked c p x a = unless c (badProgram p ∷ isMarked (x .log) p ∷ []) a
 
-unfoldable pub lookupOf : ℕ → List ℕ → Model → Outcome
-lookupOf p path x =
-    unless (firstOf (badProgram p ∷ marked (x .log) p ∷ [])) 1 [] x (followed p x (wayOf (x .view) path (pathTextOf path)))
+unfoldable pub lookupOf : ℕ → List ℕ → Model → Answer
+lookupOf p path x = let r = lookupAnswer (x .view) path in asked (lookup p path) p x (answer (reachedNumber r) (reachedResults r) [])
 
-abbrev pub objectRows : Model → ℕ → ℕ → List Row → List Row
-objectRows x p o l = badProgram p ∷ marked (x .log) p ∷ row 7 (outside (x .view) o) ∷ row 8 (isFree (x .view) o) ∷ l
+unfoldable pub listOf : ℕ → ℕ → List ℕ → Model → Answer
+listOf p o own x = let r = listAnswer (x .view) o own in asked (list p o own) p x (answer (listNumber r) (listResults r) (listLeaves (x .view) o own))
 
-unfoldable pub listOf : ℕ → ℕ → List ℕ → Model → Outcome
-listOf p o own x =
-    let s = listing (x .view) o (length (x .view)) in
-    unless
-    (firstOf (objectRows x p o (row 9 (not (isDirectory (entryAt (x .view) o))) ∷ row 19 (ltb (length own) (length s)) ∷ [])))
-    1 own x
-    (answered p (o ∷ []) (answer 0 (length s ∷ []) (filled own s)) x)
+unfoldable pub statOf : ℕ → ℕ → Model → Answer
+statOf p o x = let r = statAnswer (x .view) o in asked (stat p o) p x (answer (statNumber r) (statResults r) [])
 
--- "stat (kind, length, usage)"
-unfoldable pub statOf : ℕ → ℕ → Model → Outcome
-statOf p o x =
-    let e = entryAt (x .view) o in
-    let len = length (contentsOf e) in
-    unless (firstOf (objectRows x p o [])) 3 [] x (answered p (o ∷ []) (answer 0 (kindNumber e ∷ len ∷ usage len ∷ []) []) x)
-
--- "Read gives the smaller of the buffer length and what follows the offset; other bytes stay."
-unfoldable pub readOf : ℕ → ℕ → ℕ → List ℕ → Model → Outcome
+unfoldable pub readOf : ℕ → ℕ → ℕ → List ℕ → Model → Answer
 readOf p o f own x =
-    let c = contentsOf (entryAt (x .view) o) in
-    let s = take (length own) (drop f c) in
-    unless
-    (firstOf (objectRows x p o (row 9 (not (isFile (entryAt (x .view) o))) ∷ row 12 (ltb (length c) f) ∷ [])))
-    1 own x
-    (answered p (o ∷ []) (answer 0 (length s ∷ []) (filled own s)) x)
+    let r = readAnswer (x .view) o f own in
+    asked (read p o f own) p x (answer (readNumber r) (readResults r) (readLeaves (x .view) o f own))

@@ -1,8 +1,8 @@
--- Document 01, "Returned numbers": "The lowest number wins." A call's refusals are a table of conditions with their numbers
--- in rising order; the first condition that holds gives the number.
-use Prim.Native.Nat.{ℕ}
+-- Document 01, "Returned numbers": "The lowestNumber number wins." A call's refusals are a table: conditions, each with its number.
+use Prim.Native.Nat.{ℕ, min}
 use mathlib.Core.List.{List, [], _∷_}
 use mathlib.Core.Bool.{Bool, cond}
+use lib.Dec.{eqb}
 
 pub record Row : Type 0 where
   pub holds : Bool
@@ -11,7 +11,11 @@ pub record Row : Type 0 where
 abbrev pub row : ℕ → Bool → Row
 row n b = record { holds = b; number = n }
 
--- the number of the first row that holds; 0 where none does
-unfoldable pub firstOf : List Row → ℕ
-firstOf [] = 0
-firstOf (r ∷ l) = cond (r .holds) (r .number) (firstOf l)
+-- the lower of two numbers, of which 0 is none
+abbrev pub lower : ℕ → ℕ → ℕ
+lower a b = cond (eqb a 0) b (cond (eqb b 0) a (min a b))
+
+-- the least number among the rows that hold; 0 where none does
+unfoldable pub lowestNumber : List Row → ℕ
+lowestNumber [] = 0
+lowestNumber (r ∷ l) = cond (r .holds) (lower (r .number) (lowestNumber l)) (lowestNumber l)

@@ -1,38 +1,47 @@
 -- What each entry does, on all inputs: format, mount, and every call over the three buffers.
 use Prim.Native.Nat.{ℕ}
+use mathlib.Core.Path.{_≡_}
 use mathlib.Core.List.{List, []}
-use mathlib.Core.Bool.{_&&_, cond}
+use mathlib.Core.Bool.{true, _&&_, cond}
 use mathlib.Core.Option.{Option, none, some}
-use lib.ListN.{replicate}
-use Rattle.volume.specs.Volume.{Volume, formatted}
-use Rattle.volume.specs.Stored.{encodeVolume, decodeVolume}
-use Rattle.volume.specs.Lent.{isSome}
+use Rattle.returned.specs.Returned
+use Rattle.search.specs.Volume.{Volume, formatted}
+use Rattle.search.specs.Stored.{encodeVolume, decodeVolume, isSome}
 use Rattle.log.specs.Slot.{Log, emptyLog}
+use Rattle.log.specs.Change.{waitingOf}
 use Rattle.log.specs.Stored.{encodeLog, decodeLog}
-use Rattle.session.specs.Call.{Geometry, Buffers, Call, lookup, list, stat, read, createFile, makeDirectory, remove, rename, write, setLength, forder, push, fsync, cut, take, renew, Answer, answer, resultCount, ownBuffer, inRange, serverFits, lengthsFit}
-use Rattle.session.specs.Model.{Model, model, Outcome}
+use Rattle.session.specs.Call.{Geometry, Buffers, Call, lookup, list, stat, read, createFile, makeDirectory, remove, rename, write, setLength, forder, push, fsync, cut, take, renew, Answer, answer, refusal, inRange, serverFits, lengthsFit}
+use Rattle.session.specs.Model.{Model}
+use Rattle.session.specs.Effect.{Effect, performAll, effectsOf}
 use Rattle.session.specs.Question.{lookupOf, listOf, statOf, readOf}
 use Rattle.session.specs.Edit.{makeOf, removeOf, renameOf, writeOf, setLengthOf, forderOf}
-use Rattle.session.specs.Send.{pushOf, fsyncOf, cutOf, takeOf, renewOf}
+use Rattle.session.specs.Send.{pushOf, fsyncOf, takeOf, renewOf}
 
--- what a call does to the volumes and the log
-abbrev pub outcome : Geometry → Call → Model → Outcome
-outcome g (lookup p s) x = lookupOf p s x
-outcome g (list p o s) x = listOf p o s x
-outcome g (stat p o) x = statOf p o x
-outcome g (read p o f s) x = readOf p o f s x
-outcome g (createFile p d n o) x = makeOf g (createFile p d n o) p d n o x
-outcome g (makeDirectory p d n o) x = makeOf g (makeDirectory p d n o) p d n o x
-outcome g (remove p d n) x = removeOf g p d n x
-outcome g (rename p d n e k) x = renameOf g p d n e k x
-outcome g (write p o f s) x = writeOf g p o f s x
-outcome g (setLength p o f) x = setLengthOf g p o f x
-outcome g (forder p s) x = forderOf g p s x
-outcome g (push q) x = pushOf q x
-outcome g (fsync p o k) x = fsyncOf p o k x
-outcome g cut x = cutOf x
-outcome g (take p s) x = takeOf p s x
-outcome g (renew p) x = renewOf p x
+-- what a call answers
+unfoldable pub answerOf : Geometry → Call → Model → Answer
+answerOf g (lookup p s) x = lookupOf p s x
+answerOf g (list p o s) x = listOf p o s x
+answerOf g (stat p o) x = statOf p o x
+answerOf g (read p o f s) x = readOf p o f s x
+answerOf g (createFile p d n o) x = makeOf g (createFile p d n o) p d n o x
+answerOf g (makeDirectory p d n o) x = makeOf g (makeDirectory p d n o) p d n o x
+answerOf g (remove p d n) x = removeOf g p d n x
+answerOf g (rename p d n e k) x = renameOf g p d n e k x
+answerOf g (write p o f s) x = writeOf g p o f s x
+answerOf g (setLength p o f) x = setLengthOf g p o f x
+answerOf g (forder p s) x = forderOf g p s x
+answerOf g (push q) x = pushOf q x
+answerOf g (fsync p o k) x = fsyncOf p o k x
+answerOf g cut x = answer Returned.accepted [] []
+answerOf g (take p s) x = takeOf p s x
+answerOf g (renew p) x = renewOf p x
+
+-- what a call does to the volumes and the log, and what these then are
+abbrev pub effectsIn : Geometry → Call → Model → List Effect
+effectsIn g c x = effectsOf c (answerOf g c x) (x .view) (waitingOf (x .log .slots))
+
+unfoldable pub leavesOf : Geometry → Call → Model → Model
+leavesOf g c x = performAll (effectsIn g c x) x
 
 -- what an entry answers and what it leaves in the three buffers; its own buffer is in the answer
 pub record Result : Type 0 where
@@ -40,7 +49,7 @@ pub record Result : Type 0 where
   pub leaves : Buffers
 
 abbrev pub turnedDown : ℕ → Call → Buffers → Result
-turnedDown n c s = record { gives = answer n (replicate (resultCount c) 0) (ownBuffer c); leaves = s }
+turnedDown n c s = record { gives = refusal n c; leaves = s }
 
 abbrev pub encodeModel : Geometry → Model → Buffers
 encodeModel g x =
@@ -55,27 +64,30 @@ abbrev pub joinModel : Option Volume → Option Volume → Option Log → Option
 joinModel none v l = none
 joinModel (some s) none l = none
 joinModel (some s) (some v) none = none
-joinModel (some s) (some v) (some l) = some (model s v l)
+joinModel (some s) (some v) (some l) = some (record { server = s; view = v; log = l })
 
 unfoldable pub decodeModel : Geometry → Buffers → Option Model
 decodeModel g s =
     joinModel (decodeVolume (g .objects) (g .blocks) (s .server)) (decodeVolume (g .objects) (g .blocks) (s .view))
     (decodeLog (g .objects) (g .blocks) (g .capacity) (s .log))
 
-abbrev pub stored : Geometry → Outcome → Result
-stored g x = record { gives = x .gives; leaves = encodeModel g (x .leaves) }
+-- buffers of the right lengths, for a geometry in range, that store a model
+pub record Stores (g : Geometry) (s : Buffers) (x : Model) : Type 0 where
+  pub range : inRange g ≡ true
+  pub lengths : lengthsFit g s ≡ true
+  pub read : decodeModel g s ≡ some x
 
 abbrev pub onModel : Geometry → Call → Buffers → Option Model → Result
-onModel g c s none = turnedDown 2 c s
-onModel g c s (some x) = stored g (outcome g c x)
+onModel g c s none = turnedDown Returned.damaged c s
+onModel g c s (some x) = record { gives = answerOf g c x; leaves = encodeModel g (leavesOf g c x) }
 
 -- "1 Wrong buffer", then "2 Damaged: stored form broken", then the call: "Every other entry is lent all three and checks their form."
 unfoldable pub step : Geometry → Call → Buffers → Result
-step g c s = cond (inRange g && lengthsFit g s) (onModel g c s (decodeModel g s)) (turnedDown 1 c s)
+step g c s = cond (inRange g && lengthsFit g s) (onModel g c s (decodeModel g s)) (turnedDown Returned.wrongBuffer c s)
 
 -- "Format looks only at the server volume's length"
 unfoldable pub format : Geometry → List ℕ → ℕ
-format g s = cond (inRange g && serverFits g s) 0 1
+format g s = cond (inRange g && serverFits g s) Returned.accepted Returned.wrongBuffer
 
 unfoldable pub formatLeaves : Geometry → List ℕ → List ℕ
 formatLeaves g s = cond (inRange g && serverFits g s) (encodeVolume (g .blocks) (formatted (g .objects))) s
@@ -87,8 +99,8 @@ mount g s =
     cond (inRange g && lengthsFit g s)
     (cond (isSome (decodeVolume (g .objects) (g .blocks) (s .server)))
     (record {
-      gives = answer 0 [] [];
+      gives = answer Returned.accepted [] [];
       leaves = record { server = s .server; view = s .server; log = encodeLog (g .capacity) emptyLog };
     })
-    (record { gives = answer 2 [] []; leaves = s }))
-    (record { gives = answer 1 [] []; leaves = s })
+    (record { gives = answer Returned.damaged [] []; leaves = s }))
+    (record { gives = answer Returned.wrongBuffer [] []; leaves = s })

@@ -6,20 +6,20 @@ use mathlib.Core.List.{[]}
 use mathlib.Core.Bool.{Bool, true, false, _&&_, cond}
 use mathlib.Core.Option.{Option, none, some}
 use borrow.Author.Tests.{eq-eqb}
-use Rattle.volume.specs.Volume.{Volume}
-use Rattle.volume.specs.Stored.{decodeVolume}
-use Rattle.volume.specs.Lent.{isSome}
-use Rattle.volume.specs.StoredLaws
+use Rattle.search.specs.Volume.{Volume}
+use Rattle.search.specs.Stored.{decodeVolume, isSome}
+use Rattle.search.specs.StoredLaws
 use Rattle.log.specs.Slot.{Log, emptyLog}
 use Rattle.log.specs.Slot
 use Rattle.log.specs.SlotLaws.{empty-good}
 use Rattle.log.specs.Stored.{encodeLog}
 use Rattle.log.specs.StoredLaws as LogLaws
 use Rattle.session.specs.Call.{Geometry, Buffers, Call, inRange, serverFits, lengthsFit}
-use Rattle.session.specs.Model.{Model, model}
-use Rattle.session.specs.Step.{Result, outcome, encodeModel, joinModel, decodeModel, onModel, step, mount}
-use Rattle.session.specs.EditLaws.{Sound, objects-few, blocks-few}
-use Rattle.session.specs.SoundLaws.{call-sound}
+use Rattle.session.specs.Model.{Model}
+use Rattle.session.specs.Step.{Result, Stores, answerOf, leavesOf, encodeModel, joinModel, decodeModel, onModel, step, mount}
+use Rattle.session.specs.PossibleLaws.{Sound}
+use Rattle.session.specs.EditLaws.{objects-few, blocks-few}
+use Rattle.session.specs.CallLaws.{call-sound}
 
 -- buffers of the right lengths that store a model
 pub record Holds (g : Geometry) (s : Buffers) (x : Model) : Type 0 where
@@ -34,7 +34,7 @@ join-inv none v l x e = let z : _≡_ {A = ℕ} 0 1 = cc in absurd (omega arith)
 join-inv (some s) none l x e = let z : _≡_ {A = ℕ} 0 1 = cc in absurd (omega arith)
 join-inv (some s) (some v) none x e = let z : _≡_ {A = ℕ} 0 1 = cc in absurd (omega arith)
 join-inv (some s) (some v) (some l) x e =
-    let m : model s v l ≡ x = cc in
+    let m : _≡_ {A = Model} (record { server = s; view = v; log = l }) x = cc in
     (ap (λ (y : Model). some (y .server)) m, ap (λ (y : Model). some (y .view)) m, ap (λ (y : Model). some (y .log)) m)
 
 -- a sound model is stored in buffers of the right lengths, and read from them again
@@ -59,32 +59,41 @@ model-stored g x s =
     }
 
 -- what buffers store is sound, and they are its bytes
-pub model-read : (g : Geometry) (s : Buffers) (x : Model) → inRange g ≡ true → lengthsFit g s ≡ true → decodeModel g s ≡ some x → Holds g s x
+pub model-read : (g : Geometry) (s : Buffers) (x : Model) → Stores g s x → Holds g s x
 unfolding decodeModel
-model-read g s x r f e =
-    let j = join-inv _ _ _ x e in
+model-read g s x h =
+    let j = join-inv _ _ _ x (h .read) in
     let es = StoredLaws.encode-decode (g .objects) (g .blocks) (s .server) (x .server) (j .0) in
     let ev = StoredLaws.encode-decode (g .objects) (g .blocks) (s .view) (x .view) (j .1) in
     let el = LogLaws.encode-decode (g .objects) (g .blocks) (g .capacity) (s .log) (x .log) (j .2) in
     record {
-      sound = record { range = r; server = es .0; view = ev .0; log = el .0 };
-      fit = f;
+      sound = record { range = h .range; server = es .0; view = ev .0; log = el .0 };
+      fit = h .lengths;
       stored = λ i. record { server = es .1 i; view = ev .1 i; log = el .1 i };
-      read = e;
+      read = h .read;
     }
 
 -- a call on buffers that store a model gives the model's answer and leaves what the model's call leaves, of the right form again
-pub step-holds : (g : Geometry) (c : Call) (s : Buffers) (x : Model) → Holds g s x
-    → (step g c s .gives ≡ outcome g c x .gives) × Holds g (step g c s .leaves) (outcome g c x .leaves)
+pub record Steps (g : Geometry) (c : Call) (s : Buffers) (x : Model) : Type 0 where
+  pub gives : step g c s .gives ≡ answerOf g c x
+  pub leaves : step g c s .leaves ≡ encodeModel g (leavesOf g c x)
+  pub holds : Holds g (step g c s .leaves) (leavesOf g c x)
+
+pub step-holds : (g : Geometry) (c : Call) (s : Buffers) (x : Model) → Holds g s x → Steps g c s x
 unfolding step
 step-holds g c s x h =
-    let is : step g c s ≡ onModel g c s (some x) = rw (h .sound .range, h .fit, h .read) in (
-      ap (λ (y : Result). y .gives) is,
-      subst (λ (y : Buffers). Holds g y (outcome g c x .leaves)) (sym (ap (λ (y : Result). y .leaves) is)) (model-stored g (outcome g c x .leaves) (call-sound g c x (h .sound))),
-    )
+    let is : step g c s ≡ onModel g c s (some x) = rw (h .sound .range, h .fit, h .read) in
+    record {
+      gives = ap (λ (y : Result). y .gives) is;
+      leaves = ap (λ (y : Result). y .leaves) is;
+      holds = subst (λ (y : Buffers). Holds g y (leavesOf g c x)) (sym (ap (λ (y : Result). y .leaves) is)) (model-stored g (leavesOf g c x) (call-sound g c x (h .sound)));
+    }
 
--- an accepted mount leaves buffers that store the server volume twice and an empty log
-pub mount-holds : (g : Geometry) (s : Buffers) → mount g s .gives .returned ≡ 0 → (v : Volume) × (decodeVolume (g .objects) (g .blocks) (s .server) ≡ some v) × Holds g (mount g s .leaves) (model v v emptyLog)
+-- an accepted mount leaves buffers that store the volume of the server's bytes twice and an empty log
+abbrev pub mountedModel : Volume → Model
+mountedModel v = record { server = v; view = v; log = emptyLog }
+
+pub mount-holds : (g : Geometry) (s : Buffers) → mount g s .gives .returned ≡ 0 → (v : Volume) × (decodeVolume (g .objects) (g .blocks) (mount g s .leaves .server) ≡ some v) × Holds g (mount g s .leaves) (mountedModel v)
 unfolding mount
 mount-holds g s e = go (inRange g) (lengthsFit g s) (decodeVolume (g .objects) (g .blocks) (s .server)) refl refl refl e
   where
@@ -100,11 +109,12 @@ mount-holds g s e = go (inRange g) (lengthsFit g s) (decodeVolume (g .objects) (
 
     go : (r f : Bool) (d : Option Volume) → inRange g ≡ r → lengthsFit g s ≡ f → decodeVolume (g .objects) (g .blocks) (s .server) ≡ d
         → cond (r && f) (cond (isSome d) after (refusal 2)) (refusal 1) .gives .returned ≡ 0
-        → (v : Volume) × (decodeVolume (g .objects) (g .blocks) (s .server) ≡ some v) × Holds g (cond (r && f) (cond (isSome d) after (refusal 2)) (refusal 1) .leaves) (model v v emptyLog)
+        → (v : Volume) × (decodeVolume (g .objects) (g .blocks) (cond (r && f) (cond (isSome d) after (refusal 2)) (refusal 1) .leaves .server) ≡ some v)
+        × Holds g (cond (r && f) (cond (isSome d) after (refusal 2)) (refusal 1) .leaves) (mountedModel v)
     go true true (some v) hr hf hd k =
         let d = StoredLaws.encode-decode (g .objects) (g .blocks) (s .server) v hd in
-        let sound : Sound g (model v v emptyLog) = record { range = hr; server = d .0; view = d .0; log = empty-good (g .objects) (g .blocks) (g .capacity) } in
-        (v, hd, subst (λ (y : Buffers). Holds g y (model v v emptyLog)) (λ i. record { server = d .1 i; view = d .1 i; log = encodeLog (g .capacity) emptyLog }) (model-stored g (model v v emptyLog) sound))
+        let sound : Sound g (mountedModel v) = record { range = hr; server = d .0; view = d .0; log = empty-good (g .objects) (g .blocks) (g .capacity) } in
+        (v, hd, subst (λ (y : Buffers). Holds g y (mountedModel v)) (λ i. record { server = d .1 i; view = d .1 i; log = encodeLog (g .capacity) emptyLog }) (model-stored g (mountedModel v) sound))
     go true true none hr hf hd k = let z : _≡_ {A = ℕ} 0 1 = cc in absurd (omega arith)
     go true false d hr hf hd k = let z : _≡_ {A = ℕ} 0 1 = cc in absurd (omega arith)
     go false f d hr hf hd k = let z : _≡_ {A = ℕ} 0 1 = cc in absurd (omega arith)

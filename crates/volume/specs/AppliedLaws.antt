@@ -13,16 +13,16 @@ use Rattle.names.specs.Name.{validName}
 use Rattle.names.specs.NameLaws.{valid-length}
 use Rattle.records.specs.Operation.{createFile, makeDirectory, remove, rename, overwrite, append, setLength, Record, mapOf, operands}
 use Rattle.records.specs.Fields.{parts, standsIn, ifStands, differing, tied, between, inBlock, valid, allBelow, fits}
-use Rattle.records.specs.ExactLaws.{valid-inv}
+use Rattle.records.specs.RecordLaws.{valid-inv}
 use Rattle.entry.specs.Entry.{Entry, free, file, directory, isUsed, isFile, isDirectory, contentsOf}
-use Rattle.volume.specs.Volume.{Volume, entryAt, search, hasChildren}
-use Rattle.volume.specs.Form.{wellFormed}
-use Rattle.volume.specs.Apply.{isAbsent, leads, hasRoom, stays, yields, applies}
-use Rattle.volume.specs.FormLaws.{well-formed-inv}
-use Rattle.volume.specs.SearchLaws.{used-below}
-use Rattle.volume.specs.ChangeLaws.{unused-free}
-use Rattle.volume.specs.ApplyLaws.{leads-named, displaced-good}
-use Rattle.volume.specs.Held.{Displaces}
+use Rattle.search.specs.Volume.{Volume, entryAt, search, hasChildren}
+use Rattle.search.specs.Form.{wellFormed}
+use Rattle.applies.specs.Apply.{isAbsent, leads, hasRoom, stays, yields, applies}
+use Rattle.search.specs.FormLaws.{well-formed-inv}
+use Rattle.search.specs.SearchLaws.{used-below}
+use Rattle.search.specs.ChangeLaws.{unused-free}
+use Rattle.applies.specs.ApplyLaws.{leads-named, displaced-good}
+use Rattle.applies.specs.Code.Held.{Displaces}
 
 -- a number with room for a new entry
 room-free : (v : Volume) (o p : ℕ) (m : List ℕ) → hasRoom v o p m ≡ true → (o < length v) × (entryAt v o ≡ free)

@@ -7,20 +7,22 @@ use mathlib.Core.Bool.{true}
 use mathlib.Core.List.{List, [], _++_}
 use lib.ListN.{length, set}
 use Rattle.records.specs.declared.kind.Kind.the-variants.{CreateFile, MakeDirectory, Remove, Rename, Overwrite, Append, SetLength, Forder}
-use Rattle.records.specs.declared.reader.Whole.{Whole}
-use Rattle.records.specs.Fields.{standsIn}
-use Rattle.records.specs.Answer.{displacedIf, stretch, recordFrom}
+use Rattle.reader.specs.declared.Whole.{Whole}
+use Rattle.records.specs.Fields.{standsIn, displacedIf}
+use Rattle.buffer.specs.Span.{stretch}
+use Rattle.reader.specs.Answer.{recordFrom}
 use Rattle.entry.specs.Entry.{free, isUsed, isFile, contentsOf, renamed, refilled}
 use Rattle.entry.specs.Stored.{entryOf}
-use Rattle.entry.specs.Write.{written, resized}
-use Rattle.volume.specs.Apply.{without, applies, apply}
-use Rattle.volume.specs.Stored.{encodeVolume, readVolume}
-use Rattle.volume.specs.Lent.{Formed, entryIn, withEntry}
-use Rattle.volume.specs.StoredLaws.{read-good}
-use Rattle.volume.specs.LentLaws.{length-read, encoded-formed}
-use Rattle.volume.specs.ApplyLaws.{apply-good}
-use Rattle.volume.specs.Held.{operationIn, Fitting, Displaces}
-use Rattle.volume.specs.HeldLaws.{operation-kind}
+use Rattle.buffer.specs.Patch.{patch}
+use Rattle.entry.specs.Write.{resized}
+use Rattle.applies.specs.Apply.{withoutDisplaced, applies, apply}
+use Rattle.search.specs.Stored.{encodeVolume, readVolume}
+use Rattle.search.specs.Code.Lent.{Formed, entryIn, withEntry}
+use Rattle.search.specs.StoredLaws.{read-good}
+use Rattle.search.specs.LentLaws.{length-read, encoded-formed}
+use Rattle.applies.specs.ApplyLaws.{apply-good}
+use Rattle.applies.specs.Code.Held.{operationIn, Fitting, Displaces}
+use Rattle.applies.specs.HeldLaws.{operation-kind}
 use Rattle.volume.specs.AppliedLaws.{file-made, directory-made, removed, renamed-ready, overwrite-ready, append-ready, length-ready}
 
 module _ (n b : ℕ) (s t : List ℕ) (w : Whole) (f : Formed n b s) (g : Fitting n b t w)
@@ -68,7 +70,7 @@ module _ (n b : ℕ) (s t : List ℕ) (w : Whole) (f : Formed n b s) (g : Fittin
         (below _ (x .0), x .1, rw q (x .2), x .3)
 
     pub rename-leaves : w .head .kind ≡ Rename
-        → encodeVolume b (set (without (readVolume n b s) (displacedIf (standsIn (w .head .map) 8) (w .objects .displaced))) (w .objects .object)
+        → encodeVolume b (set (withoutDisplaced (readVolume n b s) (displacedIf (standsIn (w .head .map) 8) (w .objects .displaced))) (w .objects .object)
         (renamed (entryIn n b s (w .objects .object)) m (w .objects .second)))
         ≡ encodeVolume b (apply (readVolume n b s) (operationIn t w))
     unfolding apply
@@ -85,7 +87,7 @@ module _ (n b : ℕ) (s t : List ℕ) (w : Whole) (f : Formed n b s) (g : Fittin
 
     pub overwrite-leaves : w .head .kind ≡ Overwrite
         → withEntry n b s (w .objects .object)
-        (refilled (entryIn n b s (w .objects .object)) (written (contentsOf (entryIn n b s (w .objects .object))) (w .range .offset) c))
+        (refilled (entryIn n b s (w .objects .object)) (patch (contentsOf (entryIn n b s (w .objects .object))) (w .range .offset) c))
         ≡ encodeVolume b (apply (readVolume n b s) (operationIn t w))
     unfolding apply
     overwrite-leaves e = rw (operation-kind t w Overwrite e, q)

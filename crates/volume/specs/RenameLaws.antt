@@ -5,17 +5,17 @@ use mathlib.Core.Path.{_≡_, sym, ap, ap₂, _∙_, subst}
 use mathlib.Core.Bool.{Bool, true, false}
 use mathlib.Core.List.{List}
 use lib.ListN.{set}
-use Rattle.records.specs.Answer.{displacedIf}
+use Rattle.records.specs.Fields.{displacedIf}
 use Rattle.entry.specs.Entry.{Entry, free, renamed}
-use Rattle.volume.specs.Volume.{Volume, entryAt}
-use Rattle.volume.specs.Form.{wellFormed}
-use Rattle.volume.specs.Apply.{without}
-use Rattle.volume.specs.Stored.{encodeVolume, readVolume}
-use Rattle.volume.specs.StoredLaws.{read-good}
-use Rattle.volume.specs.Lent.{Formed, entryIn, withEntry}
-use Rattle.volume.specs.LentLaws.{encoded-formed}
-use Rattle.volume.specs.SearchLaws.{entry-set-other}
-use Rattle.volume.specs.Held.{Displaces}
+use Rattle.search.specs.Volume.{Volume, entryAt}
+use Rattle.search.specs.Form.{wellFormed}
+use Rattle.applies.specs.Apply.{withoutDisplaced}
+use Rattle.search.specs.Stored.{encodeVolume, readVolume}
+use Rattle.search.specs.StoredLaws.{read-good}
+use Rattle.search.specs.Code.Lent.{Formed, entryIn, withEntry}
+use Rattle.search.specs.LentLaws.{encoded-formed}
+use Rattle.search.specs.SearchLaws.{entry-set-other}
+use Rattle.applies.specs.Code.Held.{Displaces}
 
 -- What is known of a displaced object, where there is one.
 pub displaces : (n b : ℕ) (v : Volume) (o : ℕ) (x : Bool) (d : ℕ) → Displaces n b v o (displacedIf x d) → x ≡ true
@@ -39,14 +39,14 @@ module _ (n b : ℕ) (s : List ℕ) (f : Formed n b s) (d : ℕ) (w : wellFormed
   -- The second step after the first leaves the object renamed and the displaced one gone.
   pub renamed-after : (o : ℕ) → (o ≡ d → ⊥) → (m : List ℕ) (q : ℕ) (x : Bool) → x ≡ true
       → withEntry n b u o (renamed (entryIn n b u o) m q)
-      ≡ encodeVolume b (set (without (readVolume n b s) (displacedIf x d)) o (renamed (entryIn n b s o) m q))
+      ≡ encodeVolume b (set (withoutDisplaced (readVolume n b s) (displacedIf x d)) o (renamed (entryIn n b s o) m q))
   renamed-after o z m q x t =
       ap₂ (λ (v : Volume) (y : Entry). encodeVolume b (set v o (renamed y m q))) freed-read (freed-entry o z)
-      ∙ ap (λ (y : Bool). encodeVolume b (set (without (readVolume n b s) (displacedIf y d)) o (renamed (entryIn n b s o) m q))) (sym t)
+      ∙ ap (λ (y : Bool). encodeVolume b (set (withoutDisplaced (readVolume n b s) (displacedIf y d)) o (renamed (entryIn n b s o) m q))) (sym t)
 
 -- Without a displaced object the second step is all.
 pub renamed-alone : (n b : ℕ) (s : List ℕ) (o d : ℕ) (m : List ℕ) (q : ℕ) (x : Bool) → x ≡ false
     → withEntry n b s o (renamed (entryIn n b s o) m q)
-    ≡ encodeVolume b (set (without (readVolume n b s) (displacedIf x d)) o (renamed (entryIn n b s o) m q))
+    ≡ encodeVolume b (set (withoutDisplaced (readVolume n b s) (displacedIf x d)) o (renamed (entryIn n b s o) m q))
 renamed-alone n b s o d m q x t =
-    ap (λ (y : Bool). encodeVolume b (set (without (readVolume n b s) (displacedIf y d)) o (renamed (entryIn n b s o) m q))) (sym t)
+    ap (λ (y : Bool). encodeVolume b (set (withoutDisplaced (readVolume n b s) (displacedIf y d)) o (renamed (entryIn n b s o) m q))) (sym t)

@@ -6,11 +6,11 @@ use mathlib.Core.List.{List}
 use mathlib.Core.Path.{_≡_, refl, sym, _∙_}
 use native.Mathlib.Omega.{arith}
 use borrow.Author.Needs.{needs}
-use Rattle.records.specs.Numeral.{Bytes}
-use Rattle.volume.specs.Stored.{readVolume}
-use Rattle.volume.specs.Lent.{lent, formed}
-use Rattle.volume.specs.LentLaws.{lent-inv}
-use Rattle.form.specs.Checks.{Gathered, Numbers, entriesFormed, parentsFormed, allLead, allAlone}
+use Rattle.buffer.specs.Numeral.{Bytes}
+use Rattle.search.specs.Stored.{readVolume, lent, formed}
+use Rattle.search.specs.LentLaws.{lent-inv}
+use Rattle.twins.specs.Code.Checks.{Gathered, allAlone}
+use Rattle.form.specs.Code.Checks.{Numbers, entriesFormed, parentsFormed, allLead}
 use Rattle.form.specs.ChecksLaws.{checks-formed, formed-first, formed-checks, parents-below}
 use Rattle.form.proofs.well_formed.Statement.{statement}
 use Rattle.form.proofs.well_formed.Tie as tie

@@ -5,7 +5,7 @@ use mathlib.Core.Bool.{true, false}
 use mathlib.Core.List.{List}
 use mathlib.Core.Path.{_≡_, sym, _∙_}
 use borrow.Author.Needs.{needs}
-use Rattle.volume.specs.Lent.{lent, formed}
+use Rattle.search.specs.Stored.{lent, formed}
 use Rattle.formcheck.specs.Number.{formNumber}
 use Rattle.formcheck.proofs.wb_volume_form.Statement.{statement}
 use Rattle.formcheck.proofs.wb_volume_form.Tie as tie

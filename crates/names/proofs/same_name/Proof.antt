@@ -3,12 +3,12 @@
 use Prim.Native.Nat.{ℕ, _+_, _-_, _≤_, _<_}
 use mathlib.Core.Bool.{true, false}
 use mathlib.Core.List.{List}
-use mathlib.Core.Path.{_≡_, refl, sym, ap, _∙_}
+use mathlib.Core.Path.{_≡_, refl, sym, _∙_}
 use native.Mathlib.Omega.{arith}
 use lib.ListN.{length, getD, drop, drop-of-length-le}
 use borrow.Author.Tests.{eq-eqb, ne-eqb}
 use Rattle.names.specs.Name.{sameName}
-use Rattle.names.specs.NameLaws.{same-step, differs-other}
+use Rattle.names.specs.NameLaws.{same-step, lengths-differ}
 use Rattle.names.proofs.same_name.Statement.{statement}
 use Rattle.names.proofs.same_name.Tie as tie
 
@@ -33,7 +33,7 @@ module _ (a b : List ℕ) (n : length a ≡ length b) (i : ℕ) (inv : sameName 
       sym (rw (drop-of-length-le a h, drop-of-length-le b h′) at inv)
 
 returns : tie.Need-returns Inv-loop μ-loop
-returns c = sym (differs-other _ _ (λ e. c .if1 .taken (ap length e)))
+returns c = sym (lengths-differ _ _ (c .if1 .taken))
 
 loop-holds : tie.Need-loop-holds Inv-loop μ-loop
 loop-holds c = (omega arith, refl)

@@ -9,9 +9,8 @@ use lib.ListN.{take, drop}
 use borrow.Author.Needs.{needs}
 use Rattle.names.specs.declared.NameText.{NameText}
 use Rattle.names.specs.Name.{nameTextOf}
-use Rattle.names.specs.NameLaws.{fine-valid}
-use Rattle.records.specs.ReaderLaws.{bad-invalid, long-invalid}
-use Rattle.entry.specs.Check.{zeros}
+use Rattle.names.specs.NameLaws.{fine-valid, bad-invalid, long-invalid}
+use Rattle.buffer.specs.Zero.{zeros}
 use Rattle.entry.specs.TestLaws.{take-part, name-long, name-invalid, name-zeros}
 use Rattle.entry.proofs.form.name_formed.Statement.{statement}
 use Rattle.entry.proofs.form.name_formed.Tie as tie

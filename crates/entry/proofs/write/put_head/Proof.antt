@@ -7,10 +7,10 @@ use mathlib.Core.Path.{_≡_, ap, _∙_}
 use mathlib.Core.List.{List, [], _++_, append-assoc, append-nil}
 use lib.ListN.{length, take, drop, replicate, length-append, length-drop, drop-of-length-le}
 use lib.Seq.{take-at, take-all}
-use Rattle.records.specs.Numeral.{bytes}
-use Rattle.records.specs.NumeralLaws.{length-bytes}
-use Rattle.records.specs.Patch.{patch, Put}
-use Rattle.records.specs.PatchLaws.{put-then, put-end}
+use Rattle.buffer.specs.Numeral.{bytes}
+use Rattle.buffer.specs.NumeralLaws.{length-bytes}
+use Rattle.buffer.specs.Patch.{patch, Put}
+use Rattle.buffer.specs.PatchLaws.{put-then, put-end}
 use Rattle.entry.specs.Write.{headField}
 use Rattle.entry.specs.WriteLaws.{length-patch}
 use Rattle.entry.proofs.write.put_head.Statement.{statement}

@@ -8,13 +8,13 @@ use native.Mathlib.Omega.{arith}
 use lib.Dec.{eqb}
 use borrow.Author.Count.{below-more}
 use borrow.Author.Tests.{ne-eqb}
-use Rattle.entry.specs.Check.{entryFormed, rootFormed}
-use Rattle.volume.specs.Volume.{every}
-use Rattle.volume.specs.Lent.{entryPart}
-use Rattle.volume.specs.LentLaws.{entry-long}
-use Rattle.volume.specs.AnswerLaws.{settled}
-use Rattle.form.specs.Checks.{entriesFormed}
-use Rattle.form.specs.LoopLaws.{stopped, passed}
+use Rattle.entry.specs.Code.Check.{entryFormed, rootFormed}
+use Rattle.search.specs.Volume.{every}
+use Rattle.search.specs.Code.Lent.{entryPart}
+use Rattle.search.specs.LentLaws.{entry-long}
+use Rattle.search.specs.AnswerLaws.{settled}
+use Rattle.form.specs.Code.Checks.{entriesFormed}
+use Rattle.twins.specs.LoopLaws.{stopped, passed}
 use Rattle.form.proofs.each.entries_formed.Statement.{statement}
 use Rattle.form.proofs.each.entries_formed.Tie as tie
 

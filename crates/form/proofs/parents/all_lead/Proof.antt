@@ -5,8 +5,9 @@ use mathlib.Core.Bool.{true}
 use mathlib.Core.Path.{_≡_, refl}
 use native.Mathlib.Omega.{arith}
 use borrow.Author.Count.{below-none, below-more}
-use Rattle.form.specs.Checks.{climbsBy, allLead}
-use Rattle.form.specs.LoopLaws.{stopped, passed}
+use Rattle.search.specs.AnswerLaws.{settled}
+use Rattle.form.specs.Code.Checks.{climbsBy, allLead}
+use Rattle.twins.specs.LoopLaws.{stopped, passed}
 use Rattle.form.proofs.parents.all_lead.Statement.{statement}
 use Rattle.form.proofs.parents.all_lead.Tie as tie
 
@@ -29,14 +30,14 @@ loop-less : tie.Need-loop-less Inv-loop μ-loop
 loop-less c = omega arith
 
 loop-again : tie.Need-loop-again Inv-loop μ-loop
-loop-again c = let l = c .before .before .before in (omega arith, below-more _ (l .loop .i) (l .loop .inv .1) (cc))
+loop-again c = let l = c .before .before .before in (omega arith, below-more _ (l .loop .i) (l .loop .inv .1) (settled (c .before .leads .ensures) (c .if1 .taken)))
 
 returns : tie.Need-returns Inv-loop μ-loop
 unfolding allLead
 returns c =
     let l = c .before .before .before in
     let a = l .before .args in
-    stopped (a .n) (a .n) (climbsBy (a .n) (a .parents .now)) refl (l .loop .i) (omega arith) (cc)
+    stopped (a .n) (a .n) (climbsBy (a .n) (a .parents .now)) refl (l .loop .i) (omega arith) (settled (c .before .leads .ensures) (c .if1 .left))
 
 returns-2 : tie.Need-returns-2 Inv-loop μ-loop
 unfolding allLead

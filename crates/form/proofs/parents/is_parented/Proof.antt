@@ -4,13 +4,14 @@ use Prim.Native.Nat.{ℕ, _≤_}
 use mathlib.Core.Bool.{Bool, true, false, or-true}
 use mathlib.Core.Path.{_≡_, sym, ap}
 use lib.ListN.{length, List·getD-eq-default}
+use native.Mathlib.Omega.{arith}
 use borrow.Author.Tests.{eq-eqb, ne-eqb}
 use Rattle.entry.specs.Entry.{free, isUsed, isDirectory, parentOf}
-use Rattle.volume.specs.Volume.{Volume, entryAt}
-use Rattle.volume.specs.Stored.{readVolume}
-use Rattle.volume.specs.LentLaws.{length-read, entry-long}
-use Rattle.volume.specs.AnswerLaws.{settled, of-entry}
-use Rattle.form.specs.Checks.{parented}
+use Rattle.search.specs.Volume.{Volume, entryAt}
+use Rattle.search.specs.Stored.{readVolume}
+use Rattle.search.specs.LentLaws.{length-read, entry-long}
+use Rattle.search.specs.AnswerLaws.{settled, of-entry}
+use Rattle.form.specs.Code.Checks.{parented}
 use Rattle.form.proofs.parents.is_parented.Statement.{statement}
 use Rattle.form.proofs.parents.is_parented.Tie as tie
 
@@ -41,7 +42,7 @@ parent-requires : tie.Need-parent-requires
 parent-requires c κs = entry-long (c .before .before .entry .ensures)
 
 entry-requires-2 : tie.Need-entry-requires-2
-entry-requires-2 c κs = (c .before .before .before .before .before .before .before .pre .0, c .if3 .taken)
+entry-requires-2 c κs = (c .before .before .before .before .before .before .before .pre .0, omega arith)
 
 is-directory-requires : tie.Need-is-directory-requires
 is-directory-requires c κs = entry-long (c .entry2 .ensures)

@@ -3,7 +3,7 @@
 use Prim.Native.Nat.{_≤_, _<_}
 use mathlib.Core.Path.{_≡_, refl, _∙_}
 use native.Mathlib.Omega.{arith}
-use Rattle.form.specs.Checks.{climbsBy}
+use Rattle.form.specs.Code.Checks.{climbsBy}
 use Rattle.form.specs.LoopLaws.{root-leads, parent-leads, none-left}
 use Rattle.form.proofs.parents.leads.Statement.{statement}
 use Rattle.form.proofs.parents.leads.Tie as tie

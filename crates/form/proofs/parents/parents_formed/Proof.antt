@@ -6,11 +6,11 @@ use mathlib.Core.Path.{_≡_}
 use native.Mathlib.Omega.{arith}
 use lib.ListN.{length}
 use borrow.Author.Count.{below-none, below-more}
-use Rattle.volume.specs.Stored.{readVolume}
-use Rattle.volume.specs.LentLaws.{length-read}
-use Rattle.volume.specs.AnswerLaws.{settled}
-use Rattle.form.specs.Checks.{parented, parentsFormed}
-use Rattle.form.specs.LoopLaws.{stopped, passed}
+use Rattle.search.specs.Stored.{readVolume}
+use Rattle.search.specs.LentLaws.{length-read}
+use Rattle.search.specs.AnswerLaws.{settled}
+use Rattle.form.specs.Code.Checks.{parented, parentsFormed}
+use Rattle.twins.specs.LoopLaws.{stopped, passed}
 use Rattle.form.proofs.parents.parents_formed.Statement.{statement}
 use Rattle.form.proofs.parents.parents_formed.Tie as tie
 

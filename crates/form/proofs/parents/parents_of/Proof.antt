@@ -1,13 +1,13 @@
 -- `form::parents::parents_of` meets its contract. The loop's invariant: the parents of the entries passed are gathered, and 0 stands
 -- behind them. Assumes nothing.
 use Prim.Native.Nat.{_-_, _≤_}
-use mathlib.Core.Path.{_≡_, refl, _∙_}
+use mathlib.Core.Path.{_≡_, refl, ap, _∙_}
 use native.Mathlib.Omega.{arith}
 use lib.ListN.{length, length-set}
 use Rattle.entry.specs.Entry.{parentOf}
-use Rattle.volume.specs.Stored.{readVolume}
-use Rattle.volume.specs.LentLaws.{length-read}
-use Rattle.form.specs.LoopLaws.{all-zero, Passed, gather-next, gather-ended}
+use Rattle.search.specs.Stored.{readVolume}
+use Rattle.search.specs.LentLaws.{length-read}
+use Rattle.twins.specs.LoopLaws.{all-zero, Passed, gather-next, gather-ended}
 use Rattle.form.proofs.parents.parents_of.Statement.{statement}
 use Rattle.form.proofs.parents.parents_of.Tie as tie
 
@@ -46,7 +46,7 @@ loop-again c =
     let p = l .loop .parents in (
       omega arith,
       length-set p (l .loop .i) (c .parent .result) ∙ l .loop .inv .1,
-      gather-next parentOf v (l .loop .i) p (l .loop .inv .2) (omega arith) (c .parent .result) (cc),
+      gather-next parentOf v (l .loop .i) p (l .loop .inv .2) (omega arith) (c .parent .result) (c .parent .ensures .0 ∙ ap parentOf (c .before .entry .ensures .tells)),
     )
 
 returns : tie.Need-returns Inv-loop μ-loop

@@ -4,10 +4,10 @@ use mathlib.Core.Path.{_≡_}
 use native.Mathlib.Omega.{arith}
 use lib.ListN.{length}
 use borrow.Author.Needs.{needs}
-use Rattle.volume.specs.Volume.{Volume}
-use Rattle.volume.specs.Stored.{readVolume}
-use Rattle.volume.specs.LentLaws.{length-read}
-use Rattle.volume.specs.AnswerLaws.{settled}
+use Rattle.search.specs.Volume.{Volume}
+use Rattle.search.specs.Stored.{readVolume}
+use Rattle.search.specs.LentLaws.{length-read}
+use Rattle.search.specs.AnswerLaws.{settled}
 use Rattle.questions.specs.declared.object.Object.the-variants.{File, Directory, BadNumber, Free}
 use Rattle.questions.specs.Answer.{objectAnswer}
 use Rattle.questions.specs.AnswerLaws.{list-object, list-short, list-bytes}

@@ -11,11 +11,11 @@ use lib.Seq.{getD-take, getD-drop}
 use borrow.Author.Needs.{needs}
 use Rattle.entry.specs.Entry.{nameOf}
 use Rattle.entry.specs.Stored.{entryBytes, readEntry}
-use Rattle.volume.specs.Volume.{isChild}
-use Rattle.volume.specs.Stored.{readVolume}
-use Rattle.volume.specs.Lent.{IsEntry}
-use Rattle.volume.specs.LentLaws.{entry-long}
-use Rattle.volume.specs.AnswerLaws.{settled}
+use Rattle.search.specs.Volume.{isChild}
+use Rattle.search.specs.Stored.{readVolume}
+use Rattle.search.specs.Code.Lent.{IsEntry}
+use Rattle.search.specs.LentLaws.{entry-long}
+use Rattle.search.specs.AnswerLaws.{settled}
 use Rattle.questions.specs.ListingLaws.{name-below, length-listed}
 use Rattle.questions.proofs.listing.listed_len.Statement.{statement}
 use Rattle.questions.proofs.listing.listed_len.Tie as tie

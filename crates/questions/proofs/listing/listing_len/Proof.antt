@@ -4,8 +4,8 @@ use Prim.Native.Nat.{ℕ, _+_, _*_, _≤_, _-_}
 use mathlib.Core.Path.{_≡_, refl, ap, _∙_}
 use native.Mathlib.Omega.{arith}
 use lib.ListN.{length, length-append}
-use Rattle.volume.specs.Volume.{Volume}
-use Rattle.volume.specs.Stored.{readVolume}
+use Rattle.search.specs.Volume.{Volume}
+use Rattle.search.specs.Stored.{readVolume}
 use Rattle.questions.specs.Listing.{listing, listedAt}
 use Rattle.questions.specs.ListingLaws.{listing-next}
 use Rattle.questions.proofs.listing.listing_len.Statement.{statement}

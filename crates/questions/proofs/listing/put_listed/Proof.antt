@@ -8,15 +8,15 @@ use mathlib.Core.Path.{_≡_}
 use native.Mathlib.Omega.{arith}
 use lib.ListN.{length}
 use borrow.Author.Needs.{needs}
-use Rattle.records.specs.Numeral.{bytes}
-use Rattle.records.specs.NumeralLaws.{length-bytes}
-use Rattle.records.specs.Patch.{Put}
-use Rattle.records.specs.PatchLaws.{put-then, put-end, put-none}
+use Rattle.buffer.specs.Numeral.{bytes}
+use Rattle.buffer.specs.NumeralLaws.{length-bytes}
+use Rattle.buffer.specs.Patch.{Put}
+use Rattle.buffer.specs.PatchLaws.{put-then, put-end, put-none}
 use Rattle.entry.specs.Entry.{kindNumber, nameOf}
-use Rattle.volume.specs.Volume.{Volume, entryAt, isChild}
-use Rattle.volume.specs.Stored.{readVolume}
-use Rattle.volume.specs.LentLaws.{entry-long}
-use Rattle.volume.specs.AnswerLaws.{settled, of-entry}
+use Rattle.search.specs.Volume.{Volume, entryAt, isChild}
+use Rattle.search.specs.Stored.{readVolume}
+use Rattle.search.specs.LentLaws.{entry-long}
+use Rattle.search.specs.AnswerLaws.{settled, of-entry}
 use Rattle.questions.specs.ListingLaws.{length-listed}
 use Rattle.questions.proofs.listing.put_listed.Statement.{statement}
 use Rattle.questions.proofs.listing.put_listed.Tie as tie

@@ -5,10 +5,10 @@ use mathlib.Core.List.{List}
 use mathlib.Core.Path.{_≡_, refl, subst}
 use native.Mathlib.Omega.{arith}
 use lib.ListN.{length}
-use Rattle.records.specs.Patch.{Put}
-use Rattle.records.specs.PatchLaws.{put-then, put-none}
-use Rattle.volume.specs.Volume.{Volume}
-use Rattle.volume.specs.Stored.{readVolume}
+use Rattle.buffer.specs.Patch.{Put}
+use Rattle.buffer.specs.PatchLaws.{put-then, put-none}
+use Rattle.search.specs.Volume.{Volume}
+use Rattle.search.specs.Stored.{readVolume}
 use Rattle.questions.specs.Listing.{listing, listedAt}
 use Rattle.questions.specs.ListingLaws.{listing-next, listing-within}
 use Rattle.questions.proofs.listing.put_listing.Statement.{statement}

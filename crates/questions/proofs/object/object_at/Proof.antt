@@ -4,10 +4,10 @@ use Prim.Native.Nat.{ℕ, _≤_, _<_}
 use mathlib.Core.List.{List}
 use mathlib.Core.Path.{_≡_, sym, _∙_}
 use Rattle.entry.specs.Entry.{kindNumber}
-use Rattle.volume.specs.Volume.{entryAt}
-use Rattle.volume.specs.Stored.{readVolume}
-use Rattle.volume.specs.LentLaws.{length-read, entry-long}
-use Rattle.volume.specs.AnswerLaws.{settled, of-entry}
+use Rattle.search.specs.Volume.{entryAt}
+use Rattle.search.specs.Stored.{readVolume}
+use Rattle.search.specs.LentLaws.{length-read, entry-long}
+use Rattle.search.specs.AnswerLaws.{settled, of-entry}
 use Rattle.questions.specs.declared.object.Object.the-variants.{File, Directory, BadNumber, Free}
 use Rattle.questions.specs.Answer.{objectOf, objectAnswer}
 use Rattle.questions.specs.AnswerLaws.{free-object, file-object, directory-object, object-past, object-in}

@@ -6,10 +6,10 @@ use mathlib.Core.Path.{_≡_, sym, _∙_}
 use lib.ListN.{length}
 use borrow.Author.Needs.{needs}
 use Rattle.entry.specs.Entry.{kindNumber, contentsOf, usage}
-use Rattle.volume.specs.Volume.{entryAt}
-use Rattle.volume.specs.Stored.{readVolume}
-use Rattle.volume.specs.LentLaws.{length-read, entry-long}
-use Rattle.volume.specs.AnswerLaws.{settled, of-entry}
+use Rattle.search.specs.Volume.{entryAt}
+use Rattle.search.specs.Stored.{readVolume}
+use Rattle.search.specs.LentLaws.{length-read, entry-long}
+use Rattle.search.specs.AnswerLaws.{settled, of-entry}
 use Rattle.questions.specs.declared.object.Stat.the-variants.{Is, BadNumber, NoObject}
 use Rattle.questions.specs.Answer.{statAnswer}
 use Rattle.questions.specs.AnswerLaws.{stat-past, stat-free, stat-used}

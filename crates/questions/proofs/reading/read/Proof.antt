@@ -5,10 +5,10 @@ use native.Mathlib.Omega.{arith}
 use lib.ListN.{length, length-take}
 use borrow.Author.Needs.{needs}
 use Rattle.entry.specs.Entry.{contentsOf}
-use Rattle.volume.specs.Volume.{Volume, entryAt}
-use Rattle.volume.specs.Stored.{readVolume}
-use Rattle.volume.specs.LentLaws.{length-read, entry-long}
-use Rattle.volume.specs.AnswerLaws.{settled, of-entry}
+use Rattle.search.specs.Volume.{Volume, entryAt}
+use Rattle.search.specs.Stored.{readVolume}
+use Rattle.search.specs.LentLaws.{length-read, entry-long}
+use Rattle.search.specs.AnswerLaws.{settled, of-entry}
 use Rattle.questions.specs.declared.object.Object.the-variants.{File, Directory, BadNumber, Free}
 use Rattle.questions.specs.Answer.{objectAnswer}
 use Rattle.questions.specs.AnswerLaws.{file-below, read-object, read-beyond, read-bytes}

@@ -2,10 +2,9 @@
 -- The measure is what is left of the count. Assumes nothing.
 use native.Mathlib.Omega.{arith}
 use Prim.Native.Nat.{_≤_, _-_}
-use mathlib.Core.Path.{_≡_, refl, sym, ap, _∙_}
+use mathlib.Core.Path.{_≡_, sym, _∙_}
 use lib.ListN.{length, drop}
-use Rattle.records.specs.Fields.{validList}
-use Rattle.records.specs.Reader.{objectsOf}
+use Rattle.records.specs.Fields.{validList, objectsOf}
 use Rattle.records.specs.ListLaws.{count-objects, goodFrom, good-high, good-twice, good-on, good-end, valid-few, valid-many, valid-by-each}
 use Rattle.records.proofs.list.good_list.Statement.{statement}
 use Rattle.records.proofs.list.good_list.Tie as tie

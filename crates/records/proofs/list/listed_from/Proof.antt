@@ -4,8 +4,7 @@ use native.Mathlib.Omega.{arith}
 use Prim.Native.Nat.{_≤_, _-_}
 use mathlib.Core.Path.{_≡_, refl, sym, _∙_}
 use lib.ListN.{length, drop}
-use Rattle.records.specs.Fields.{member}
-use Rattle.records.specs.Reader.{objectsOf}
+use Rattle.records.specs.Fields.{member, objectsOf}
 use Rattle.records.specs.ListLaws.{count-objects, member-here, member-on, member-end}
 use Rattle.records.proofs.list.listed_from.Statement.{statement}
 use Rattle.records.proofs.list.listed_from.Tie as tie

@@ -2,7 +2,7 @@
 -- Assumes nothing.
 use borrow.Author.Needs.{needs}
 use native.Mathlib.Omega.{arith}
-use mathlib.Core.Path.{sym, _∙_}
+use mathlib.Core.Path.{_∙_}
 use Rattle.records.specs.ListLaws.{object-at}
 use Rattle.records.proofs.list.object_of.Statement.{statement}
 use Rattle.records.proofs.list.object_of.Tie as tie

@@ -4,12 +4,12 @@ use mathlib.Core.Path.{sym, ap, _∙_, subst}
 use mathlib.Core.Bool.{Bool}
 use lib.ListN.{set}
 use native.Mathlib.Omega.{arith}
-use Rattle.records.specs.Answer.{displacedIf}
+use Rattle.records.specs.Fields.{displacedIf}
 use Rattle.entry.specs.Entry.{renamed}
-use Rattle.volume.specs.Apply.{without}
-use Rattle.volume.specs.Lent.{entryIn}
-use Rattle.volume.specs.Held.{Displaces}
-use Rattle.volume.specs.Stored.{encodeVolume, readVolume}
+use Rattle.applies.specs.Apply.{withoutDisplaced}
+use Rattle.search.specs.Code.Lent.{entryIn}
+use Rattle.applies.specs.Code.Held.{Displaces}
+use Rattle.search.specs.Stored.{encodeVolume, readVolume}
 use Rattle.volume.specs.KindLaws as held
 use borrow.Author.Needs.{needs}
 use Rattle.volume.proofs.apply.apply.Statement.{statement}
@@ -162,7 +162,7 @@ returns-4 c =
     let a = t .args in
     let p = t .pre in
     y .apply-rename .ensures
-    ∙ ap (λ (d : Bool). encodeVolume (a .b) (set (without (readVolume (a .n) (a .b) (a .s .now)) (displacedIf d (a .w .objects .displaced))) (a .w .objects .object)
+    ∙ ap (λ (d : Bool). encodeVolume (a .b) (set (withoutDisplaced (readVolume (a .n) (a .b) (a .s .now)) (displacedIf d (a .w .objects .displaced))) (a .w .objects .object)
     (renamed (entryIn (a .n) (a .b) (a .s .now) (a .w .objects .object)) (g .stretch-of3 .result .now) (a .w .objects .second)))) (g .before .stands .ensures)
     ∙ held.rename-leaves (a .n) (a .b) (a .s .now) (a .rec .now) (a .w) (p .0) (p .1 .0) (p .1 .1) (g .stretch-of3 .result .now) (g .stretch-of3 .ensures) (e .enum-told4 .given .1)
 

@@ -2,7 +2,7 @@
 -- Assumes nothing.
 use mathlib.Core.Path.{ap, _∙_}
 use Rattle.entry.specs.Entry.{isUsed}
-use Rattle.volume.specs.Stored.{readVolume}
+use Rattle.search.specs.Stored.{readVolume}
 use Rattle.volume.specs.RenameLaws.{displaces, freed-formed, freed-entry, renamed-after, renamed-alone}
 use borrow.Author.Needs.{needs}
 use Rattle.volume.proofs.apply.apply_rename.Statement.{statement}

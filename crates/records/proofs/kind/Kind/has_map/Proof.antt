@@ -1,7 +1,7 @@
 -- `records::kind::Kind::has_map` meets its contract: the two tests are those of `hasMap`.
 -- Assumes nothing.
 use borrow.Author.Needs.{needs}
-use mathlib.Core.Path.{sym, ap, _∙_}
+use mathlib.Core.Path.{sym, _∙_}
 use borrow.Author.Tests.{eq-eqb, ne-eqb}
 use Rattle.records.specs.Kind.{hasMap}
 use Rattle.records.proofs.kind.Kind.has_map.Statement.{statement}

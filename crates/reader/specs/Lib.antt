@@ -1,0 +1,10 @@
+pub mod Reader
+pub mod ReaderLaws
+pub mod Answer
+pub mod SoundLaws
+pub mod SoundRecord
+pub mod CompleteLaws
+pub mod ExactLaws
+pub mod Fit
+pub mod FitLaws
+pub mod AnswerLaws

@@ -1,0 +1,13 @@
+pub mod Volume
+pub mod Form
+pub mod Stored
+pub mod Answer
+pub mod Code
+pub mod FormLaws
+pub mod StoredLaws
+pub mod LentLaws
+pub mod PartLaws
+pub mod ClimbLaws
+pub mod SearchLaws
+pub mod ChangeLaws
+pub mod AnswerLaws

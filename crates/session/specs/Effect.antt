@@ -1,0 +1,114 @@
+-- Document 01, "Calls" and "Order and dependence": the few effects that calls are made of, what each leaves of the volumes and the
+-- log, and which a call has.
+use Prim.Native.Nat.{ℕ}
+use mathlib.Core.List.{List, [], _∷_, _++_, map}
+use mathlib.Core.Bool.{cond}
+use mathlib.Core.Option.{Option, none, some}
+use lib.ListN
+use lib.ListN.{getD}
+use lib.Dec.{eqb}
+use Rattle.returned.specs.Returned
+use Rattle.records.specs.Operation.{Operation, Record, operands}
+use Rattle.search.specs.Volume.{Volume}
+use Rattle.applies.specs.Apply.{apply}
+use Rattle.lookup.specs.Lookup.{lookupOperands}
+use Rattle.log.specs.Order.{needed}
+use Rattle.log.specs.Change
+use Rattle.session.specs.Call.{Call, lookup, list, stat, read, createFile, makeDirectory, remove, rename, write, setLength, forder, push, fsync, cut, Answer}
+use Rattle.session.specs.Call
+use Rattle.session.specs.Issue.{issues}
+use Rattle.session.specs.Model.{Model, withServer, withView, withLog}
+
+pub data Effect : Type 0 where
+  -- program, operands: an accepted call brings the program's dependence on what its operands reach
+  note : ℕ → List ℕ → Effect
+  -- program, operation: it alters the view, takes a sequence number and waits
+  issue : ℕ → Operation → Effect
+  -- sequence number: the waiting operation is applied to the server and its slot freed
+  send : ℕ → Effect
+  -- all waiting operations become lost ones, their dependents are marked, and the view shows the server
+  discard : Effect
+  -- program: its earliest loss is fetched and its slot freed
+  take : ℕ → Effect
+  -- program: its mark is cleared
+  renew : ℕ → Effect
+
+-- the operation that was found under a sequence number is sent
+abbrev pub sentFound : Option Record → Model → Model
+sentFound none x = x
+sentFound (some r) x = withServer (apply (x .server) (r .operation)) (withLog (Change.sent (r .sequence) (x .log)) x)
+
+unfoldable pub perform : Effect → Model → Model
+perform (note p ops) x = withLog (Change.note p ops (x .log)) x
+-- "Each accepted change, and forder, alters the view, takes one sequence number and waits"; "The server is untouched."
+perform (issue p o) x = withView (apply (x .view) o) (withLog (Change.issue p o (x .log)) x)
+-- "Push sends the waiting operation of a given sequence number and frees its slot."
+perform (send q) x = sentFound (Change.waitingAt q (x .log)) x
+-- "Cut turns all waiting ones into lost ones, marks the dependents, and copies the server to the view."
+perform discard x = withView (x .server) (withLog (Change.discard (x .log)) x)
+-- "Take writes the earliest loss of a program and frees its slot. Renew clears its mark."
+perform (take p) x = withLog (Change.taken p (x .log)) x
+perform (renew p) x = withLog (Change.renewed p (x .log)) x
+
+-- one after the other
+unfoldable pub performAll : List Effect → Model → Model
+performAll [] x = x
+performAll (e ∷ es) x = performAll es (perform e x)
+
+-- sends of some operations, in their order
+abbrev pub sends : List Record → List Effect
+sends l = map (λ (r : Record). send (r .sequence)) l
+
+-- the operations of one call: each brings its dependence and is issued
+unfoldable pub issuing : ℕ → List Operation → List Effect
+issuing p [] = []
+issuing p (o ∷ os) = note p (operands o) ∷ issue p o ∷ issuing p os
+
+-- what an accepted call does, told from its arguments, the view, and the waiting operations. "Lookup's operands are the directories
+-- it searches and the object found; the others have their object." Fsync "needs d sends .. in issue order"
+abbrev pub acceptedEffects : Call → Volume → List Record → List Effect
+acceptedEffects (lookup p s) v w = note p (lookupOperands v s) ∷ []
+acceptedEffects (list p o s) v w = note p (o ∷ []) ∷ []
+acceptedEffects (stat p o) v w = note p (o ∷ []) ∷ []
+acceptedEffects (read p o f s) v w = note p (o ∷ []) ∷ []
+acceptedEffects (createFile p d n o) v w = issuing p (issues v (createFile p d n o))
+acceptedEffects (makeDirectory p d n o) v w = issuing p (issues v (makeDirectory p d n o))
+acceptedEffects (remove p d n) v w = issuing p (issues v (remove p d n))
+acceptedEffects (rename p d n e k) v w = issuing p (issues v (rename p d n e k))
+acceptedEffects (write p o f s) v w = issuing p (issues v (write p o f s))
+acceptedEffects (setLength p o f) v w = issuing p (issues v (setLength p o f))
+acceptedEffects (forder p s) v w = issuing p (issues v (forder p s))
+acceptedEffects (push q) v w = send q ∷ []
+acceptedEffects (fsync p o k) v w = note p (o ∷ []) ∷ sends (needed o w)
+acceptedEffects cut v w = discard ∷ []
+acceptedEffects (Call.take p s) v w = take p ∷ []
+acceptedEffects (Call.renew p) v w = renew p ∷ []
+
+-- "no buffer changes, with two exceptions. Refusal 17 sends the first k, then cuts": "Fsync counts as such a call even if the link
+-- fails". Refusal 2 "without a cut, keeps the sends before it", as many as it reports
+abbrev pub brokenSync : ℕ → ℕ → ℕ → Answer → List Record → List Effect
+brokenSync p o k a need =
+    cond (eqb (a .returned) Returned.linkLost) (note p (o ∷ []) ∷ (sends (ListN.take k need) ++ (discard ∷ [])))
+    (cond (eqb (a .returned) Returned.damaged) (sends (ListN.take (getD (a .results) 0 0) need)) [])
+
+abbrev pub refusedEffects : Call → Answer → List Record → List Effect
+refusedEffects (lookup p s) a w = []
+refusedEffects (list p o s) a w = []
+refusedEffects (stat p o) a w = []
+refusedEffects (read p o f s) a w = []
+refusedEffects (createFile p d n o) a w = []
+refusedEffects (makeDirectory p d n o) a w = []
+refusedEffects (remove p d n) a w = []
+refusedEffects (rename p d n e k) a w = []
+refusedEffects (write p o f s) a w = []
+refusedEffects (setLength p o f) a w = []
+refusedEffects (forder p s) a w = []
+refusedEffects (push q) a w = []
+refusedEffects (fsync p o k) a w = brokenSync p o k a (needed o w)
+refusedEffects cut a w = []
+refusedEffects (Call.take p s) a w = []
+refusedEffects (Call.renew p) a w = []
+
+-- what a call does, told from its arguments, its answer, the view, and the waiting operations
+unfoldable pub effectsOf : Call → Answer → Volume → List Record → List Effect
+effectsOf c a v w = cond (eqb (a .returned) Returned.accepted) (acceptedEffects c v w) (refusedEffects c a w)

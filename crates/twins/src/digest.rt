@@ -1,0 +1,35 @@
+// A digest of every name: names of different digests differ, so that few pairs of names are compared byte for byte.
+ghost use mathlib.Core.Path.{_≡_};
+ghost use Rattle.search.specs.Stored.{readVolume};
+ghost use Rattle.search.specs.Code.Lent.{Lent};
+ghost use Rattle.twins.specs.Code.Checks.{digest, Digested};
+use buffer::number::byte_at;
+use entry::field::name;
+use search::entries::entry;
+
+// The digest of a name.
+fn digest_of(name: &[u8]) -> usize
+    ensures { λ r. ⌜ r ≡ digest (now (name .entry)) ⌝ }
+{
+    let mut seen = 0;
+    let mut i = 0;
+    while i < name.len() {
+        seen = seen % 4294967296 * 31 + byte_at(name, i);
+        i += 1;
+    }
+    seen
+}
+
+// The digest of every entry's name.
+pub fn digests_of(s: &[u8], n: usize, b: usize) -> [usize; 256]
+    requires { ⌜ Lent n b (now s) ⌝ }
+    ensures { λ r. ⌜ Digested (readVolume n b (now (s .entry))) r ⌝ }
+{
+    let mut digests = [0usize; 256];
+    let mut i = 0;
+    while i < n {
+        digests[i] = digest_of(name(entry(s, n, b, i)));
+        i += 1;
+    }
+    digests
+}
