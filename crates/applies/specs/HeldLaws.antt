@@ -14,10 +14,10 @@ use Rattle.records.specs.Operation.{Operation, present, operands}
 use Rattle.records.specs.Fields.{Parts, standsIn, allBelow, fits, operationOf, displacedIf}
 use Rattle.reader.specs.declared.Reading.the-variants.{Is as RecordIs}
 use Rattle.buffer.specs.Numeral.{Bytes}
-use Rattle.reader.specs.Reader.{recordAt}
-use Rattle.reader.specs.Answer.{partsFrom, recordFrom, decoded, decodeAt}
+use Rattle.reader.specs.Code.Reader.{recordAt}
+use Rattle.reader.specs.Code.Found.{partsFrom, recordFrom, decoded, decodeAt}
 use Rattle.reader.specs.ExactLaws.{encode-decode}
-use Rattle.reader.specs.Fit.{fitsWhole, fitsDecoded}
+use Rattle.reader.specs.Code.Fit.{fitsWhole, fitsDecoded}
 use Rattle.reader.specs.FitLaws.{fits-read}
 use mathlib.Core.Option.{some}
 use Rattle.applies.specs.Code.Held.{operationIn, Fitting}

@@ -2,7 +2,6 @@ pub mod Numeral
 pub mod NumeralLaws
 pub mod Patch
 pub mod PatchLaws
-pub mod Span
+pub mod Code
 pub mod SpanLaws
-pub mod Zero
 pub mod ZeroLaws

@@ -11,7 +11,7 @@ use lib.Dec.{eqb}
 use lib.ListN.{length, getD, drop, replicate}
 use lib.Seq.{drop-cons}
 use borrow.Author.Tests.{eqb-true, ne-eqb}
-use Rattle.buffer.specs.Zero.{zeros}
+use Rattle.buffer.specs.Code.Zero.{zeros}
 
 -- Bytes are zero from a place on where the byte there is, and they are from the next place on.
 pub zeros-step : (s : List ℕ) (i : ℕ) → i < length s → zeros (drop i s) ≡ eqb (getD s i 0) 0 && zeros (drop (i + 1) s)

@@ -1,7 +1,7 @@
 // Stretches without use: "Bytes not in use are zero".
 ghost use mathlib.Core.Path.{_≡_};
 ghost use lib.ListN.{length, replicate};
-ghost use Rattle.buffer.specs.Zero.{zeros};
+ghost use Rattle.buffer.specs.Code.Zero.{zeros};
 
 // Whether all bytes are zero. The loop has no exit, so that many bytes are tested at a time.
 pub fn all_zero(s: &[u8]) -> bool

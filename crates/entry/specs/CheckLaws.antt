@@ -15,7 +15,7 @@ use Rattle.buffer.specs.Numeral.{bytes, numeral, Bytes}
 use Rattle.buffer.specs.NumeralLaws.{length-bytes, numeral-bytes, bytes-numeral, numeral-below, bytes-part}
 use Rattle.entry.specs.Entry.{Entry, root, kindNumber, nameOf, parentOf, contentsOf}
 use Rattle.entry.specs.Stored.{padded, entryBytes, encodeEntry, readEntry}
-use Rattle.buffer.specs.Zero.{zeros}
+use Rattle.buffer.specs.Code.Zero.{zeros}
 use Rattle.entry.specs.Code.Check.{nameFormed, lengthField, dataFormed, entryFormed, rootFormed, sound}
 use Rattle.entry.specs.EntryLaws.{length-padded, free-zero}
 use Rattle.buffer.specs.ZeroLaws.{zeros-replicate, replicate-zeros}

@@ -1,7 +1,6 @@
 pub mod Entry
 pub mod UsageCases
 pub mod Stored
-pub mod Check
 pub mod Code
 pub mod Write
 pub mod EntryLaws

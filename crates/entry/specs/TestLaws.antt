@@ -13,7 +13,7 @@ use Rattle.names.specs.Name.{validName}
 use Rattle.buffer.specs.Numeral.{numeral}
 use Rattle.entry.specs.Entry.{Entry, kindNumber}
 use Rattle.entry.specs.Stored.{dataAt, entryOf, readEntry}
-use Rattle.buffer.specs.Zero.{zeros}
+use Rattle.buffer.specs.Code.Zero.{zeros}
 use Rattle.entry.specs.Code.Check.{nameFormed, lengthField, dataFormed, formedAs, entryFormed, rootFormed}
 
 -- The bytes from a place on, as many as there are, are all bytes from there on.

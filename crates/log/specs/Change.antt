@@ -1,13 +1,12 @@
 -- Document 01, "Calls": what issuing, sending, discarding, taking and renewing leave of the log.
-use Prim.Native.Nat.{ℕ, zero, suc, _+_}
+use Prim.Native.Nat.{ℕ, _+_}
 use mathlib.Core.List.{List, [], _∷_, _++_, map}
-use mathlib.Core.Bool.{Bool, true, false, not, _&&_, _||_, cond}
+use mathlib.Core.Bool.{Bool, not, _&&_, cond}
 use mathlib.Core.Option.{Option, none, some}
-use lib.ListN.{length}
-use lib.Dec.{leb, eqb}
+use lib.Dec.{eqb}
 use Rattle.records.specs.Operation.{Operation, Record}
-use Rattle.log.specs.Programs.{holds, with, without, union}
-use Rattle.log.specs.Slot.{State, waiting, lost, Slot, withState, withDependents, Log, withNext, withMarks, withSlots, isWaiting, sequenceOf}
+use Rattle.log.specs.Programs.{with, without, union}
+use Rattle.log.specs.Slot.{waiting, lost, Slot, withState, withDependents, Log, withNext, withMarks, withSlots, isWaiting, sequenceOf}
 use Rattle.log.specs.Depend.{noted}
 
 -- the waiting operations, in issue order
@@ -29,7 +28,7 @@ issue p o l =
     let r : Record = record { sequence = l .next; program = p; operation = o } in
     withNext (l .next + 1) (withSlots (l .slots ++ (waitingSlot r ∷ [])) l)
 
--- "frees its slot": "later slots move down by one"
+-- "frees its slot": later slots move down by one
 unfoldable pub removed : (Slot → Bool) → List Slot → List Slot
 removed f [] = []
 removed f (s ∷ l) = cond (f s) l (s ∷ removed f l)

@@ -1,7 +1,7 @@
 -- Document 01, "Order and dependence": which waiting operations a call depends on.
 use Prim.Native.Nat.{ℕ}
 use mathlib.Core.List.{List, [], _∷_, _++_}
-use mathlib.Core.Bool.{Bool, true, false, _&&_, cond}
+use mathlib.Core.Bool.{_&&_, cond}
 use Rattle.records.specs.Operation.{operands}
 use Rattle.log.specs.Programs.{with}
 use Rattle.log.specs.Slot.{Slot, withDependents, isWaiting}

@@ -9,7 +9,7 @@ use lib.Dec.{eqb}
 use borrow.Author.Tests.{eqb-true, ne-eqb}
 use Rattle.records.specs.Operation.{Operation, Record, operands}
 use Rattle.log.specs.Programs.{with}
-use Rattle.log.specs.Slot.{waiting, stateNumber, Slot, withDependents, Log, isWaiting, sequenceOf}
+use Rattle.log.specs.Slot.{stateNumber, Slot, withDependents, Log, isWaiting, sequenceOf}
 use Rattle.log.specs.Order.{shares}
 use Rattle.log.specs.Depend.{reach, noted}
 use Rattle.log.specs.Change.{waitingOf, waitingSlot, issue, removed, isSequence, discarded, isLossOf, earliest, lossesOf}

@@ -5,7 +5,7 @@ use mathlib.Core.List.{List, [], _∷_, List·Memᴰ}
 use mathlib.Core.Bool.{Bool, true, false, not, _&&_, _||_, cond}
 use mathlib.Core.Option.{Option, none, some}
 use lib.ListN.{length}
-use lib.Dec.{ltb, eqb}
+use lib.Dec.{ltb}
 use Rattle.records.specs.Operation.{Operation, createFile, makeDirectory, remove, rename, overwrite, append, setLength, forder, Record, operands}
 use Rattle.records.specs.Fields.{member}
 
@@ -59,7 +59,7 @@ closure pick before (a ∷ l) =
     let c = closure pick before l in
     cond (pick a || any (before a) c) (a ∷ c) c
 
--- "A earlier than B .. directly precedes B", of two records
+-- "A directly precedes B", of two records of which A is the earlier
 abbrev pub before : Record → Record → Bool
 before a b = ltb (a .sequence) (b .sequence) && directlyPrecedes (a .operation) (b .operation)
 

@@ -1,12 +1,11 @@
 -- For a list of operations that applies in order and a part of it that leaves out no predecessor of a member: the part applies
 -- in order by itself, and the whole is the part followed by the rest.
 use Prim.Native.Nat.{ℕ}
-use native.Mathlib.Omega.{arith}
 use mathlib.Core.Path.{_≡_, refl, sym, ap, _∙_, subst}
 use mathlib.Core.Logic.{⊎-elim}
-use mathlib.Core.List.{List, [], _∷_, _++_, List·Memᴰ, List·Memᴰ·head, List·Memᴰ·tail, List·Memᴰ·not-nil, List·Memᴰ·cases-cons}
-use mathlib.Core.Bool.{Bool, true, false, not, _&&_, _||_, cond}
-use Rattle.records.specs.Operation.{Operation, Record}
+use mathlib.Core.List.{List, [], _∷_, List·Memᴰ, List·Memᴰ·head, List·Memᴰ·tail, List·Memᴰ·not-nil, List·Memᴰ·cases-cons}
+use mathlib.Core.Bool.{Bool, true, false, not, cond}
+use Rattle.records.specs.Operation.{Record}
 use Rattle.records.specs.Fields.{valid, fits}
 use Rattle.search.specs.Volume.{Volume}
 use Rattle.search.specs.Form.{wellFormed}

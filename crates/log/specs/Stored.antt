@@ -1,16 +1,15 @@
 -- Document 01, "Geometry and stored form": the bytes of a log, and the log of some bytes.
 use Prim.Native.Nat.{ℕ, zero, suc, _+_, _*_, _-_}
 use mathlib.Core.List.{List, [], _∷_, _++_}
-use mathlib.Core.Bool.{Bool, true, false, _&&_, cond}
+use mathlib.Core.Bool.{_&&_, cond}
 use mathlib.Core.Option.{Option, none, some}
-use lib.ListN.{length, getD, take, drop, replicate}
-use lib.Dec.{eqb}
+use lib.ListN.{getD, take, drop, replicate}
 use Rattle.buffer.specs.Numeral.{bytes, numeral}
 use Rattle.records.specs.Operation.{Record}
 use Rattle.records.specs.Fields.{encode}
 use Rattle.records.specs.Decode.{decodeRecord}
 use Rattle.entry.specs.Stored.{padded, sameBytes}
-use Rattle.log.specs.Slot.{State, waiting, lost, stateNumber, Slot, Log, wellFormed}
+use Rattle.log.specs.Slot.{waiting, lost, stateNumber, Slot, Log, wellFormed}
 
 -- "next sequence number (4, from 1), marked programs (4, bit p for program p)"
 abbrev pub headBytes : ℕ

@@ -3,7 +3,6 @@ use Prim.Native.Nat.{ℕ, _+_}
 use mathlib.Core.Path.{_≡_}
 use mathlib.Core.List.{List, [], _∷_, _++_}
 use mathlib.Core.Bool.{Bool, true, false}
-use mathlib.Core.Option.{Option, none, some}
 use lib.ListN.{length, drop}
 use Rattle.reader.specs.declared.Objects.{Objects}
 use Rattle.buffer.specs.declared.span.Span.{Span}
@@ -16,9 +15,8 @@ use Rattle.records.specs.Kind.{codeOf}
 use Rattle.buffer.specs.Numeral.{bytes}
 use Rattle.records.specs.Operation.{Record, kindOf, mapOf}
 use Rattle.returned.specs.Returned.{accepted, badRecord}
-use Rattle.buffer.specs.Span.{span, stretch}
-use Rattle.records.specs.Fields.{Parts, parted, parts, standsIn, numberIf, field, text, pairs, objectFields, nameFields, encode, valid, objectsOf, operationOf}
-use Rattle.reader.specs.Reader.{recordAt}
+use Rattle.buffer.specs.Code.Span.{span}
+use Rattle.records.specs.Fields.{Parts, parts, standsIn, numberIf, field, text, pairs, objectFields, nameFields, encode, valid}
 
 -- where a field's bytes lie, if its bit stands; else 0 and 0
 abbrev pub spanIf : Bool → ℕ → ℕ → Span
@@ -83,25 +81,3 @@ readingNumber NoRecord = badRecord
 abbrev pub readingResults : Reading → List ℕ
 readingResults (RecordIs w) = w .next ∷ w .head .sequence ∷ w .head .program ∷ codeOf (w .head .kind) ∷ []
 readingResults NoRecord = 0 ∷ 0 ∷ 0 ∷ 0 ∷ []
-
-abbrev pub partsFrom : List ℕ → Objects → Names → Range → Parts
-partsFrom s o n g =
-    parted (o .object) (o .parent) (o .second) (o .displaced) (stretch s (n .name)) (stretch s (n .second)) (g .offset)
-    (stretch s (g .content)) (objectsOf (stretch s (g .list)))
-
--- the record that an answer tells of, its names, data and list taken from the buffer
-unfoldable pub recordFrom : List ℕ → Whole → Record
-recordFrom s w =
-    record {
-      sequence = w .head .sequence;
-      program = w .head .program;
-      operation = operationOf (w .head .kind) (w .head .map) (partsFrom s (w .objects) (w .names) (w .range));
-    }
-
-abbrev pub decoded : List ℕ → Reading → Option Record
-decoded s (RecordIs w) = some (recordFrom s w)
-decoded s NoRecord = none
-
--- the valid record whose bytes begin at a place, if there is one
-unfoldable pub decodeAt : List ℕ → ℕ → Option Record
-decodeAt s at = decoded s (recordAt s at)

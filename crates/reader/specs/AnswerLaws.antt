@@ -8,7 +8,7 @@ use Rattle.buffer.specs.Numeral.{Bytes}
 use Rattle.records.specs.Operation.{Record}
 use Rattle.records.specs.Decode.{decodeRecord}
 use Rattle.records.specs.DecodeLaws.{decode-sound, decode-encoded}
-use Rattle.reader.specs.Answer.{decodeAt}
+use Rattle.reader.specs.Code.Found.{decodeAt}
 use Rattle.reader.specs.ExactLaws.{decode-encode, encode-decode}
 
 -- the reader takes from bytes at a place the record that they begin with there

@@ -1,5 +1,5 @@
 -- The bytes of every valid record are accepted, and its answer is given: field by field, then the whole.
-use Prim.Native.Nat.{ℕ, _+_, _%_, _^_, _≤_, _<_}
+use Prim.Native.Nat.{ℕ, _+_, _^_, _≤_, _<_}
 use native.Mathlib.Nat.{add-assoc}
 use native.Mathlib.Omega.{arith}
 use mathlib.Core.Path.{_≡_, refl, sym, ap, _∙_}
@@ -23,7 +23,7 @@ use Rattle.buffer.specs.Numeral.{bytes, numeral}
 use Rattle.buffer.specs.NumeralLaws.{length-bytes, numeral-bytes}
 use Rattle.records.specs.Operation.{Operation, createFile, makeDirectory, remove, rename, overwrite, append, setLength, forder, Record, kindOf, mapOf}
 use Rattle.records.specs.Fields.{Parts, parts, standsIn, field, text, pairs, objectFields, nameFields, rangeFields, fields, headBytes, encode, ifStands, between, allUpTo, different, validList, validObjects, validNames, validRange, tied, differing, inBlock, validParts, validHead, valid, objectsOf, numberIf}
-use Rattle.reader.specs.Reader.{place, numberAt, partAt, objectAt, offsetAt, nameAt, blockAt, listAt, onNumber, partIf, headOf, headAt, objectsAt, namesAt, rangeAt, tiedAt, recordAt}
+use Rattle.reader.specs.Code.Reader.{place, numberAt, partAt, objectAt, offsetAt, nameAt, blockAt, listAt, onNumber, partIf, headOf, headAt, objectsAt, namesAt, rangeAt, tiedAt, recordAt}
 use Rattle.reader.specs.ReaderLaws.{number-there, part-there}
 use Rattle.records.specs.KindLaws.{kind-of-code, code-small, has-its-map, map-small}
 use Rattle.records.specs.ListLaws.{objects-pairs, length-pairs}

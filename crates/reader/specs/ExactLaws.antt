@@ -14,14 +14,15 @@ use Rattle.buffer.specs.Numeral.{bytes, Bytes}
 use Rattle.buffer.specs.NumeralLaws.{length-bytes}
 use Rattle.records.specs.Operation.{Record, kindOf, mapOf}
 use Rattle.records.specs.Fields.{Parts, parted, parts, standsIn, field, text, pairs, objectFields, nameFields, rangeFields, fields, headBytes, encode, ifStands, between, allUpTo, different, validList, valid, objectsOf, numberIf, operationOf}
-use Rattle.buffer.specs.Span.{stretch}
-use Rattle.reader.specs.Reader.{recordAt}
+use Rattle.buffer.specs.Code.Span.{stretch}
+use Rattle.reader.specs.Code.Reader.{recordAt}
 use Rattle.records.specs.ListLaws.{objects-pairs}
 use Rattle.buffer.specs.SpanLaws.{drop-after, take-there}
-use Rattle.reader.specs.SoundRecord.{record-sound}
+use Rattle.reader.specs.SoundRecordLaws.{record-sound}
 use Rattle.records.specs.RecordLaws.{length-head, valid-inv, under, operation-back}
 use Rattle.reader.specs.CompleteLaws.{record-complete}
-use Rattle.reader.specs.Answer.{spanIf, wholeOf, Exact, read, refused, partsFrom, recordFrom, decoded, decodeAt}
+use Rattle.reader.specs.Answer.{spanIf, wholeOf, Exact, read, refused}
+use Rattle.reader.specs.Code.Found.{partsFrom, recordFrom, decoded, decodeAt}
 
 -- the reader answers exactly what stands at the place
 pub exact : (s : List ℕ) → Bytes s → (at : ℕ) → Exact s at (recordAt s at)
@@ -50,7 +51,7 @@ module _ (s : List ℕ) where
       let u : allUpTo 255 l ≡ true = and-eq-true-iff (allUpTo 255 l) (different l) .0 (and-eq-true-iff (between 1 8 (length l)) (allUpTo 255 l && different l) .0 h .1) .0 in
       ap objectsOf (behind-back true 1 at (length l) (pairs l) rest e) ∙ objects-pairs l u
 
--- "where its names, data and list lie": the fields are taken from the buffer again by what was answered
+-- where its names, data and list lie: the fields are taken from the buffer again by what was answered
 pub parts-back : (s : List ℕ) (at : ℕ) (r : Record) (rest : List ℕ) → valid r ≡ true → drop at s ≡ encode r ++ rest
     → partsFrom s (wholeOf r at .objects) (wholeOf r at .names) (wholeOf r at .range) ≡ under (mapOf (r .operation)) (parts (r .operation))
 unfolding encode fields nameFields rangeFields wholeOf

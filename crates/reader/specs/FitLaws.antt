@@ -11,13 +11,14 @@ use Rattle.reader.specs.declared.Reading.the-variants.{Is as RecordIs}
 use Rattle.buffer.specs.Numeral.{Bytes}
 use Rattle.records.specs.Operation.{Operation, createFile, makeDirectory, remove, rename, overwrite, append, setLength, forder, Record, mapOf, operands}
 use Rattle.records.specs.Fields.{Parts, parts, objectFields, nameFields, valid, encode, allBelow, withinBlocks, fits, objectsOf}
-use Rattle.buffer.specs.Span.{stretch}
-use Rattle.reader.specs.Reader.{recordAt}
-use Rattle.reader.specs.SoundRecord.{record-sound}
+use Rattle.buffer.specs.Code.Span.{stretch}
+use Rattle.reader.specs.Code.Reader.{recordAt}
+use Rattle.reader.specs.SoundRecordLaws.{record-sound}
 use Rattle.reader.specs.ExactLaws.{decode-encode, parts-back}
 use Rattle.records.specs.RecordLaws.{under}
-use Rattle.reader.specs.Answer.{objectsIn, rangeIn, wholeOf, decodeAt}
-use Rattle.reader.specs.Fit.{fitsDecoded, objectsBelow, fitsWhole}
+use Rattle.reader.specs.Answer.{objectsIn, rangeIn, wholeOf}
+use Rattle.reader.specs.Code.Found.{decodeAt}
+use Rattle.reader.specs.Code.Fit.{fitsDecoded, objectsBelow, fitsWhole}
 
 -- the operands of an operation are below n where its fields are
 operands-below : (n : ℕ) (o : Operation) → allBelow n (operands o) ≡ objectsBelow n (mapOf o) (objectsIn (mapOf o) (parts o)) && allBelow n (parts o .list)

@@ -1,10 +1,9 @@
-pub mod Reader
+pub mod Code
 pub mod ReaderLaws
 pub mod Answer
 pub mod SoundLaws
-pub mod SoundRecord
+pub mod SoundRecordLaws
 pub mod CompleteLaws
 pub mod ExactLaws
-pub mod Fit
 pub mod FitLaws
 pub mod AnswerLaws

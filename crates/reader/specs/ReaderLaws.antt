@@ -12,7 +12,7 @@ use Rattle.reader.specs.declared.Field.the-variants.{Number, Bad as NoFi
 use Rattle.reader.specs.declared.Stretch.the-variants.{Part, Bad as NoPart}
 use Rattle.buffer.specs.Numeral.{numeral, Bytes}
 use Rattle.buffer.specs.NumeralLaws.{numeral-below, bytes-part}
-use Rattle.reader.specs.Reader.{place, numberAt, partAt}
+use Rattle.reader.specs.Code.Reader.{place, numberAt, partAt}
 
 -- too few bytes are left
 pub number-short : (w : ℕ) (s : List ℕ) (at : ℕ) → length s - at < w → numberAt w s at ≡ NoField

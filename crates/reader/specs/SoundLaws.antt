@@ -15,8 +15,8 @@ use Rattle.reader.specs.declared.Stretch.the-variants.{Part, Bad as NoPa
 use Rattle.buffer.specs.Numeral.{bytes, numeral, Bytes}
 use Rattle.buffer.specs.NumeralLaws.{bytes-numeral, bytes-part}
 use Rattle.records.specs.Fields.{field, pairs, ifStands, between, validList, objectsOf, numberIf}
-use Rattle.reader.specs.Reader.{place, numberAt, partAt, objectAt, offsetAt, nameAt, blockAt, listAt, onNumber, partIf}
-use Rattle.buffer.specs.Span.{span, stretch}
+use Rattle.reader.specs.Code.Reader.{place, numberAt, partAt, objectAt, offsetAt, nameAt, blockAt, listAt, onNumber, partIf}
+use Rattle.buffer.specs.Code.Span.{span, stretch}
 use Rattle.reader.specs.ReaderLaws.{number-inv, part-inv}
 use Rattle.records.specs.ListLaws.{count-objects, pairs-objects}
 use Rattle.buffer.specs.SpanLaws.{Spans, spans-none, spans-append, spans-taken}

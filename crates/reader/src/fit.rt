@@ -1,7 +1,7 @@
 // "Records fit n and b": whether a record that was read fits the geometry, as the log's form asks.
 ghost use mathlib.Core.Path.{_≡_};
 ghost use Prim.Native.Nat.{_≤_};
-ghost use Rattle.reader.specs.Fit.{belowIf, objectsBelow, fitsWhole};
+ghost use Rattle.reader.specs.Code.Fit.{belowIf, objectsBelow, fitsWhole};
 use crate::Objects;
 use crate::Whole;
 use buffer::span::stretch_of;

@@ -1,7 +1,7 @@
 // The record reader: a place by value, whose methods yield the field, or the refusal, with the next place.
 ghost use mathlib.Core.Path.{_≡_};
 ghost use Prim.Native.Nat.{_<_};
-ghost use Rattle.reader.specs.Reader.{numberAt, partAt, objectAt, offsetAt, nameAt, blockAt, listAt, headOf, headAt, objectsAt, namesAt, rangeAt, tiedAt, recordAt};
+ghost use Rattle.reader.specs.Code.Reader.{numberAt, partAt, objectAt, offsetAt, nameAt, blockAt, listAt, headOf, headAt, objectsAt, namesAt, rangeAt, tiedAt, recordAt};
 ghost use Rattle.reader.specs.Answer.{Exact};
 ghost use Rattle.records.specs.Fields.{standsIn};
 ghost use Rattle.records.specs.Kind.{kindOfCode};

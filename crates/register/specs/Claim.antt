@@ -1,5 +1,5 @@
 -- The demands of document 01 on what calls do: one claim.
-use Prim.Native.Nat.{ℕ, _<_, _≤_}
+use Prim.Native.Nat.{ℕ, _<_}
 use mathlib.Core.Path.{_≡_}
 use mathlib.Core.Logic.{_⊎_, _↔_}
 use mathlib.Core.List.{List, [], _∷_, _++_, map, List·Memᴰ}
@@ -23,7 +23,7 @@ use Rattle.session.specs.Step.{Result, Stores, step, mount, decodeModel}
 use Rattle.register.specs.Replay.{replay}
 use Rattle.register.specs.Register.{Register, Acknowledged, isWaiting, isSent, isLost, sentIn, waitingIn, lostIn, viewOf, neededFor}
 use Rattle.register.specs.History.{Is, Precedes, Marked}
-use Rattle.register.specs.Run.{State, Moment, Run, Mounted, next, play, CouldHaveBeenSent}
+use Rattle.register.specs.Run.{Moment, Run, Mounted, next, play, CouldHaveBeenSent}
 use Rattle.register.specs.Takes.{lostRecords, fetchedBy, Distinct}
 
 -- each record of a list applies to the replay of those before it
@@ -51,7 +51,7 @@ pub data Breaks (m : Moment) : Type 0 where
   byCut : m .call ≡ cut → Breaks m
   byFsync : (p o k : ℕ) → m .call ≡ fsync p o k → m .answer .returned ≡ Returned.linkLost → Breaks m
 
--- "every closed set", told by the members' numbers: all that the whole list sent, none that was lost before a call, and no predecessor of
+-- every closed set, told by the members' numbers: all that the whole list sent, none that was lost before a call, and no predecessor of
 -- a member left out. Where the list ends in that call, and it is a cut or loses the link, the set adds only what this call lost
 pub record ClosedSet (before after : Register) (set : ℕ → Bool) : Type 0 where
   pub sent : (a : Acknowledged) → Is a after → isSent a ≡ true → set (a .loss .sequence) ≡ true
@@ -135,8 +135,8 @@ pub record Demand (g : Geometry) (v : Volume) (r : Run) : Type 0 where
       (p : ℕ) (b : List ℕ) → List·Memᴰ b (fetchedBy p (r .moments))
       → (a : Acknowledged) × Is a (r .last .register) × (isLost a ≡ true) × (a .loss .program ≡ p) × (valid (a .loss) ≡ true) × (decodeRecord b ≡ some (a .loss))
 
--- two runs of which each ended in a broken link, and which acknowledged the same operations: "what is lost and what was sent determine
--- each other, and the server's bytes"
+-- two runs of which each ended in a broken link, and which acknowledged the same operations: what is lost and what was sent determine
+-- each other, and the server's bytes
 pub record Determined (g h : Geometry) (r q : Run) : Type 0 where
   pub fromLost : lostIn (r .last .register) ≡ lostIn (q .last .register) → sentIn (r .last .register) ≡ sentIn (q .last .register)
   pub fromSent : sentIn (r .last .register) ≡ sentIn (q .last .register) → lostIn (r .last .register) ≡ lostIn (q .last .register)

@@ -3,13 +3,13 @@ use Prim.Native.Nat.{ℕ, suc, _+_, _<_, _≤_}
 use native.Mathlib.Omega.{arith}
 use mathlib.Core.Path.{_≡_, refl, sym, ap, _∙_, subst}
 use mathlib.Core.Logic.{_↔_, ⊎-elim}
-use mathlib.Core.List.{List, [], _∷_, _++_, map, List·Memᴰ, List·Memᴰ·head, List·Memᴰ·tail, List·Memᴰ·not-nil, List·Memᴰ·cases-cons, append-nil, append-assoc, map-append, Memᴰ·append-left}
-use mathlib.Core.Bool.{Bool, true, false, not, _&&_, _||_, cond}
+use mathlib.Core.List.{List, [], _∷_, _++_, map, List·Memᴰ, List·Memᴰ·head, List·Memᴰ·not-nil, List·Memᴰ·cases-cons, append-nil, append-assoc, map-append, Memᴰ·append-left}
+use mathlib.Core.Bool.{Bool, true, false, not, _||_, cond}
 use mathlib.Core.Option.{some}
 use lib.ListN.{length}
 use lib.ListN
 use lib.Dec.{eqb}
-use borrow.Author.Tests.{eq-eqb, not-true, not-false}
+use borrow.Author.Tests.{lt-ltb, eq-eqb}
 use Rattle.returned.specs.Returned
 use Rattle.records.specs.Operation.{Operation, Record, operands}
 use Rattle.records.specs.Fields.{encode, valid}
@@ -23,33 +23,32 @@ use Rattle.log.specs.Change.{waitingOf, lossesOf}
 use Rattle.log.specs.ChangeLaws.{at-waiting, waiting-at, waiting-in-order}
 use Rattle.session.specs.Call.{Geometry, Buffers, Call, fsync, push, take as takeLoss, Answer}
 use Rattle.session.specs.Model.{Model}
-use Rattle.session.specs.Issue.{alters}
-use Rattle.session.specs.Send.{applying, fsyncOf, pushOf}
+use Rattle.session.specs.Send.{applying, fsyncOf}
 use Rattle.session.specs.Effect.{Effect, note, issue, send, sends, issuing, perform, acceptedEffects, refusedEffects, effectsOf}
-use Rattle.session.specs.Step.{answerOf, effectsIn, leavesOf, step, mount, decodeModel}
+use Rattle.session.specs.Step.{answerOf, effectsIn, step, mount, decodeModel}
 use Rattle.session.specs.PossibleLaws.{Sendable}
 use Rattle.session.specs.ReadyLaws.{Ready, needed-ready, ready-take, first-sent}
 use Rattle.session.specs.CallLaws.{push-accepted}
-use Rattle.session.specs.AnswerLaws.{Damaged, byPush, bySync, damaged-why, push-passes, Changes, change-answered, sync-answered, link-answered}
-use Rattle.session.specs.StepLaws.{Holds, step-holds, mountedModel}
+use Rattle.session.specs.AnswerLaws.{Damaged, byPush, bySync, damaged-why, push-passes, change-answered, sync-answered, link-answered}
+use Rattle.session.specs.StepLaws.{step-holds, mountedModel}
 use Rattle.register.specs.Replay.{replay}
-use Rattle.register.specs.Register.{Register, opened, Acknowledged, isWaiting, isSent, chosen, sentIn, waitingIn, viewOf, neededFor, acknowledged, sending, happen, happenAll}
-use Rattle.register.specs.History.{Is, Precedes, Marked}
-use Rattle.register.specs.Run.{State, Moment, Run, next, run, Mounted, play}
+use Rattle.register.specs.Register.{Register, opened, Acknowledged, isWaiting, isSent, isLost, chosen, sentIn, waitingIn, neededFor, acknowledged, sending, happen, happenAll}
+use Rattle.register.specs.History.{Is, goneBy, Marked}
+use Rattle.register.specs.Run.{State, Moment, Run, next, Mounted, play}
 use Rattle.register.specs.Takes.{lostBy, lostRecords, fetchedBy, Distinct}
-use Rattle.register.specs.Claim.{AppliesInTurn, SentAt, Covers, Unpreceded, Adds, Answers, Demand, ownLosses, lossOf}
-use Rattle.register.specs.FateLaws.{Among, no-both, or-true, send-sent, send-loss}
-use Rattle.register.specs.InvariantLaws.{Kept, Good}
-use Rattle.register.specs.OperationLaws.{numbers-rise, chosen-there, in-map}
+use Rattle.register.specs.Claim.{AppliesInTurn, SentAt, Covers, ClosedSet, Unpreceded, Answers, Demand, ownLosses}
+use Rattle.register.specs.FateLaws.{Among, FateIs, waits, went, gone, fate-is, sent-live, live-there, no-both, or-true, send-sent, send-loss}
+use Rattle.register.specs.InvariantLaws.{Kept, Timed, Good}
+use Rattle.register.specs.OperationLaws.{numbers-rise, in-map}
 use Rattle.register.specs.KeptLaws.{server-replayed, view-replayed, waiting-same, sent-applies, waiting-logged}
 use Rattle.register.specs.GoodLaws.{good-applies}
 use Rattle.register.specs.PrecedesLaws.{precedes-sent, unpreceded, needs-exact}
-use Rattle.register.specs.SinceLaws.{since-same, since-then, sent-since}
+use Rattle.register.specs.SinceLaws.{Since, since-same, since-then, sent-since}
 use Rattle.register.specs.FetchLaws.{opened-fetched}
 use Rattle.register.specs.TakeLaws.{refused-none, none-left}
 use Rattle.register.specs.LossLaws.{fetched-distinct, distinct-prefix, decoded-own}
 use Rattle.register.specs.RunLaws.{Led, effect-kept, led-fed, lastModel, run-led, next-since, Met, run-met, Took, run-took, mounted-led, read-once}
-use Rattle.register.specs.CouldLaws.{could}
+use Rattle.register.specs.CouldLaws.{hasNumber, number-chosen, could}
 
 module _ (g : Geometry) where
   -- all of what is ready applies to the server, one after the other
@@ -206,6 +205,40 @@ module _ (g : Geometry) (v : Volume) where
             let free : any (λ b. before b (a .loss)) w ≡ false = sym (direct-decides w (a .loss)) ∙ ap (λ (k : List Record). preceded k (a .loss)) (sym same) ∙ u .1 h in
             ap (λ (b : Answer). b .returned) (is ∙ push-passes q x (a .loss) at free (good-applies g r x (l .good) (a .loss) there free)),
       )
+
+-- whoever is lost stays lost
+lost-since : (r s : Register) → Since r s → Timed (r .operations) (r .clock) → (a : Acknowledged) → Is a r → isLost a ≡ true
+    → (b : Acknowledged) × Is b s × (b .loss ≡ a .loss) × (isSent b ≡ false)
+lost-since r s since timed a m lost = go (fate-is a)
+  where
+    there : (b : Acknowledged) → goneBy (r .clock) (b .fate) ≡ true → isSent b ≡ false
+    there b e = by (fate-is b)
+      where
+        by : FateIs b → isSent b ≡ false
+        by (waits w n) = n
+        by (went n w) = no-both (goneBy (r .clock) (b .fate)) e (live-there b (r .clock) (sent-live b n))
+        by (gone u f n w) = n
+
+    go : FateIs a → (b : Acknowledged) × Is b s × (b .loss ≡ a .loss) × (isSent b ≡ false)
+    go (waits w n) = no-both (isLost a) lost (ap (λ (t : Bool). not (t || isSent a)) w)
+    go (went n w) = no-both (isLost a) lost (λ i. not (w i || n i))
+    go (gone u f n w) =
+        let b = since .stands a m in
+        let e : goneBy (r .clock) (a .fate) ≡ true = ap (goneBy (r .clock)) f ∙ lt-ltb u (r .clock) (timed .past a u m f) in
+        (b .0, b .1, b .2 .loss, there (b .0) (b .2 .gone (r .clock) (omega arith) ∙ e))
+
+-- what was sent is itself a closed set, of every call of a list: the premise of what could have been sent is met
+pub sent-closed : (g : Geometry) (r s : Register) (x y : Model) → Good g r x → Good g s y → Since r s → ClosedSet r s (λ q. hasNumber q (sentIn s))
+sent-closed g r s x y k h since =
+    let rise = numbers-rise 1 (s .operations) (h .kept .numbers) in
+    record {
+      sent = λ a m e. number-chosen isSent (s .operations) rise a m ∙ e;
+      added = λ a m e.
+          let b = lost-since r s since (k .timed) a m e in
+          ap (λ (z : Record). hasNumber (z .sequence) (sentIn s)) (sym (b .2)) ∙ number-chosen isSent (s .operations) rise (b .0) (b .1) ∙ b .3;
+      closed = λ a c ma mc p e.
+          number-chosen isSent (s .operations) rise a ma ∙ precedes-sent s (h .timed) p ma mc (sym (number-chosen isSent (s .operations) rise c mc) ∙ e);
+    }
 
 -- what stands in the register and the log of a program's losses
 fetched-is : (p : ℕ) (r : Register) (slots : List Record) (all : List Record) → chosen (lostBy p) (r .operations) ≡ all ++ slots → lostRecords p r ≡ map encode all ++ map encode slots

@@ -4,7 +4,7 @@ use Prim.Native.Nat.{ℕ}
 use mathlib.Core.Path.{_≡_, refl, sym, ap, _∙_, subst}
 use mathlib.Core.Logic.{⊎-elim}
 use mathlib.Core.List.{List, [], _∷_, _++_, map, List·Memᴰ, List·Memᴰ·head, List·Memᴰ·not-nil, List·Memᴰ·cases-cons}
-use mathlib.Core.Bool.{Bool, true, false, not, _&&_, _||_, cond, and-eq-true-iff, or-false}
+use mathlib.Core.Bool.{Bool, true, false, not, _&&_, _||_, cond, or-false}
 use lib.Dec.{eqb}
 use borrow.Author.Tests.{eqb-true, eq-eqb}
 use Rattle.records.specs.Operation.{Record}
@@ -18,13 +18,12 @@ use Rattle.session.specs.Send.{pushOf}
 use Rattle.session.specs.Effect.{Effect, send, discard, perform, performAll, effectsOf}
 use Rattle.session.specs.Step.{answerOf, effectsIn, leavesOf, step}
 use Rattle.session.specs.AnswerLaws.{push-passes}
-use Rattle.session.specs.ReadyLaws.{Ready, Sent, first-sent}
+use Rattle.session.specs.ReadyLaws.{Ready, first-sent}
 use Rattle.session.specs.StepLaws.{step-holds}
 use Rattle.register.specs.Register.{Register, Acknowledged, isWaiting, isSent, isLost, chosen, sending, losing, happen, happenAll}
-use Rattle.register.specs.Run.{State, Moment, Run, next, run, AllAccepted, instead, CouldHaveBeenSent}
-use Rattle.register.specs.History.{Is}
+use Rattle.register.specs.Run.{State, Moment, Run, next, run, AllAccepted, CouldHaveBeenSent}
 use Rattle.register.specs.Claim.{lossOf, ClosedSet}
-use Rattle.register.specs.FateLaws.{Among, FateIs, waits, went, gone, fate-is, no-both, send-sent, send-loss, lose-sent, lose-loss}
+use Rattle.register.specs.FateLaws.{Among, FateIs, waits, went, gone, fate-is, no-both, and-none, and-all, send-sent, send-loss, lose-sent, lose-loss}
 use Rattle.register.specs.PickLaws.{map-in}
 use Rattle.register.specs.SendLaws.{rising-unique}
 use Rattle.register.specs.OperationLaws.{numbers-rise, chosen-in, chosen-there}
@@ -70,6 +69,19 @@ no-map : (ops : List Acknowledged) → map (sendingAll []) ops ≡ ops
 unfolding sendingAll
 no-map [] = refl
 no-map (a ∷ l) = ap (λ (k : List Acknowledged). a ∷ k) (no-map l)
+
+-- a number is among those of what is chosen exactly if the operation of the number is
+pub number-chosen : (f : Acknowledged → Bool) (l : List Acknowledged) → Rising (λ a. a .loss .sequence) l → (a : Acknowledged) → Among a l → hasNumber (a .loss .sequence) (chosen f l) ≡ f a
+number-chosen f l rise a m = go (f a) refl (hasNumber (a .loss .sequence) (chosen f l)) refl
+  where
+    go : (t : Bool) → f a ≡ t → (u : Bool) → hasNumber (a .loss .sequence) (chosen f l) ≡ u → hasNumber (a .loss .sequence) (chosen f l) ≡ f a
+    go true e u h = in-any (λ q. eqb (a .loss .sequence) (q .sequence)) (chosen f l) (chosen-there f l a m e) (eq-eqb (a .loss .sequence) (a .loss .sequence) refl) ∙ sym e
+    go false e true h =
+        let z = any-in (λ (q : Record). eqb (a .loss .sequence) (q .sequence)) (chosen f l) h in
+        let c = chosen-in f l (z .0) (z .1) in
+        let own : a ≡ c .0 = rising-unique lossOf l rise a (c .0) m (c .1) (eqb-true _ _ (z .2) ∙ ap (λ (r : Record). r .sequence) (sym (c .3))) in
+        no-both (f a) (ap f own ∙ c .2) e
+    go false e false h = h ∙ sym e
 
 -- the effects of an accepted push, and of a cut
 push-effects : (g : Geometry) (q : ℕ) (x : Model) → answerOf g (push q) x .returned ≡ 0 → effectsIn g (push q) x ≡ send q ∷ []
@@ -182,42 +194,17 @@ module _ (g : Geometry) (v : Volume) where
           pushes-sent _ s x led
           (subst (λ (w : List Record). Ready w (chosen (λ a. set (a .loss .sequence) && isWaiting a) (s .register .operations))) (waiting-same g (s .register) x (led .good .kept)) (closed-ready (s .register) after since (led .good .timed) rise set closed))
 
-      -- who has the number of a member is that member
-      own : (b : Acknowledged) → Among b ops → hasNumber (b .loss .sequence) l ≡ true → (set (b .loss .sequence) && isWaiting b) ≡ true
-      own b m e =
-          let f = any-in (λ (q : Record). eqb (b .loss .sequence) (q .sequence)) l e in
-          let c = chosen-in (λ a. set (a .loss .sequence) && isWaiting a) ops (f .0) (f .1) in
-          let z : b ≡ c .0 = rising-unique lossOf ops rise b (c .0) m (c .1) (eqb-true _ _ (f .2) ∙ ap (λ (r : Record). r .sequence) (sym (c .3))) in
-          subst (λ (a : Acknowledged). (set (a .loss .sequence) && isWaiting a) ≡ true) (sym z) (c .2)
-
-      there : (b : Acknowledged) → Among b ops → isWaiting b ≡ true → set (b .loss .sequence) ≡ true → hasNumber (b .loss .sequence) l ≡ true
-      there b m w e =
-          in-any (λ q. eqb (b .loss .sequence) (q .sequence)) l
-          (chosen-there (λ a. set (a .loss .sequence) && isWaiting a) ops b m (λ i. e i && w i)) (eq-eqb (b .loss .sequence) (b .loss .sequence) refl)
-
-      none : (b : Acknowledged) → Among b ops → (set (b .loss .sequence) && isWaiting b) ≡ false → hasNumber (b .loss .sequence) l ≡ false
-      none b m e = go (hasNumber (b .loss .sequence) l) refl
-        where
-          go : (t : Bool) → hasNumber (b .loss .sequence) l ≡ t → hasNumber (b .loss .sequence) l ≡ false
-          go true h = no-both (set (b .loss .sequence) && isWaiting b) (own b m h) e
-          go false h = h
-
-      and-none : (t : Bool) → (t && false) ≡ false
-      and-none true = refl
-      and-none false = refl
-
       lost-one : (b : Acknowledged) → isSent b ≡ false → isWaiting b ≡ false → isLost b ≡ true
       lost-one b e w = λ i. not (w i || e i)
 
       member : (b : Acknowledged) → Among b ops → (isSent b || hasNumber (b .loss .sequence) l) ≡ set (b .loss .sequence)
       member b m = go (fate-is b)
         where
-          choose : (t : Bool) → set (b .loss .sequence) ≡ t → isWaiting b ≡ true → hasNumber (b .loss .sequence) l ≡ set (b .loss .sequence)
-          choose true e w = there b m w e ∙ sym e
-          choose false e w = none b m (λ i. e i && w i) ∙ sym e
+          picked : hasNumber (b .loss .sequence) l ≡ (set (b .loss .sequence) && isWaiting b)
+          picked = number-chosen (λ a. set (a .loss .sequence) && isWaiting a) ops rise b m
 
           go : FateIs b → (isSent b || hasNumber (b .loss .sequence) l) ≡ set (b .loss .sequence)
-          go (waits w e) = ap (λ (t : Bool). t || hasNumber (b .loss .sequence) l) e ∙ choose (set (b .loss .sequence)) refl w
+          go (waits w e) = (λ i. e i || picked i) ∙ ap (λ (t : Bool). set (b .loss .sequence) && t) w ∙ and-all (set (b .loss .sequence))
           go (went e w) = ap (λ (t : Bool). t || hasNumber (b .loss .sequence) l) e ∙ sym (closed-sent (s .register) after since set closed b m e)
           go (gone u f e w) =
-              (λ i. e i || none b m (ap (λ (t : Bool). set (b .loss .sequence) && t) w ∙ and-none (set (b .loss .sequence))) i) ∙ sym (closed .added b m (lost-one b e w))
+              (λ i. e i || picked i) ∙ ap (λ (t : Bool). set (b .loss .sequence) && t) w ∙ and-none (set (b .loss .sequence)) ∙ sym (closed .added b m (lost-one b e w))

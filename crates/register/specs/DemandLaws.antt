@@ -1,43 +1,39 @@
 -- The whole claim: every list of calls, two lists, and calls on any buffers.
-use Prim.Native.Nat.{ℕ, zero, suc, _+_, _<_, _≤_}
+use Prim.Native.Nat.{ℕ, zero, suc, _<_, _≤_}
 use native.Mathlib.Omega.{arith}
 use mathlib.Core.Path.{_≡_, refl, sym, ap, _∙_, subst}
-use mathlib.Core.Logic.{_↔_, ⊎-elim}
-use mathlib.Core.List.{List, [], _∷_, _++_, map, List·Memᴰ, List·Memᴰ·head, List·Memᴰ·tail, List·Memᴰ·not-nil, append-assoc, Memᴰ·append-right}
-use mathlib.Core.Bool.{Bool, true, false, not, _&&_, cond, false≢true}
+use mathlib.Core.Logic.{_↔_}
+use mathlib.Core.List.{List, [], _∷_, _++_, map, List·Memᴰ, List·Memᴰ·head, append-assoc, Memᴰ·append-right}
+use mathlib.Core.Bool.{Bool, true, false, _&&_, cond, false≢true}
 use mathlib.Core.Option.{Option, none, some}
 use lib.ListN.{length, take, drop, getD, take-append-drop}
 use lib.Dec.{eqb}
-use borrow.Author.Tests.{eqb-true, eqb-false, eq-eqb, ne-eqb}
+use borrow.Author.Tests.{ne-eqb}
 use Rattle.returned.specs.Returned
 use Rattle.records.specs.Operation.{Record}
-use Rattle.records.specs.Fields.{encode, valid}
 use Rattle.search.specs.Volume.{Volume}
 use Rattle.search.specs.Stored.{encodeVolume, decodeVolume}
 use Rattle.applies.specs.Apply.{applies, apply}
 use Rattle.log.specs.Order.{any, before, needed, preceded, PrecedesIn}
 use Rattle.log.specs.OrderLaws.{Rising, direct-decides, preceded-exact}
-use Rattle.log.specs.Change.{waitingOf, lossesOf}
+use Rattle.log.specs.Change.{waitingOf}
 use Rattle.log.specs.ChangeLaws.{waiting-at}
-use Rattle.session.specs.Call.{Geometry, Buffers, Call, lookup, list, stat, read, createFile, makeDirectory, remove, rename, write, setLength, forder, push, fsync, cut, Answer, answer, refusal, resultCount, ownBuffer, inRange, lengthsFit}
+use Rattle.session.specs.Call.{Geometry, Buffers, Call, lookup, list, stat, read, createFile, makeDirectory, remove, rename, write, setLength, forder, push, fsync, cut, Answer, answer, inRange, lengthsFit}
 use Rattle.session.specs.Call
 use Rattle.session.specs.Model.{Model}
-use Rattle.session.specs.Send.{applying, synced, fsyncOf, pushOf}
-use Rattle.session.specs.Effect.{Effect, note, discard, sends, performAll, acceptedEffects, brokenSync, refusedEffects, effectsOf}
-use Rattle.session.specs.Step.{Result, Stores, answerOf, effectsIn, leavesOf, turnedDown, encodeModel, decodeModel, onModel, step, mount}
-use Rattle.session.specs.PossibleLaws.{Sendable}
+use Rattle.session.specs.Send.{applying, synced, fsyncOf}
+use Rattle.session.specs.Effect.{Effect, note, discard, sends, performAll, acceptedEffects, refusedEffects, effectsOf}
+use Rattle.session.specs.Step.{Stores, answerOf, effectsIn, leavesOf, turnedDown, encodeModel, decodeModel, onModel, step, mount}
 use Rattle.session.specs.CallLaws.{push-accepted, Synced, whole, partly, broken, synced-is, sync-damaged}
-use Rattle.session.specs.AnswerLaws.{Plain, refused-plain, push-passes}
-use Rattle.session.specs.StepLaws.{Holds, model-read, step-holds, mountedModel}
+use Rattle.session.specs.AnswerLaws.{refused-plain, push-passes}
+use Rattle.session.specs.StepLaws.{model-read, step-holds, mountedModel}
 use Rattle.register.specs.Replay.{replay}
-use Rattle.register.specs.Register.{Register, opened, Acknowledged, isWaiting, isSent, isLost, chosen, sentIn, lostIn, happenAll}
-use Rattle.register.specs.Run.{State, Moment, Run, next, run, Mounted, play}
-use Rattle.register.specs.Takes.{lostBy}
-use Rattle.register.specs.Claim.{AppliesInTurn, lossOf, Breaks, byCut, byFsync, Broken, Demand, Determined, Unchanged, Stopped, Demands, ownLosses}
-use Rattle.register.specs.FateLaws.{Among}
+use Rattle.register.specs.Register.{Register, opened, happenAll}
+use Rattle.register.specs.Run.{State, Moment, next, run, Mounted, play}
+use Rattle.register.specs.Claim.{AppliesInTurn, lossOf, Breaks, byCut, byFsync, Broken, Determined, Unchanged, Stopped, Demands}
 use Rattle.register.specs.OperationLaws.{numbers-rise}
 use Rattle.register.specs.LossLaws.{AllValid, Settled, discard-settled, same-lost-sent, same-sent-lost, same-records-sent, same-sent-records}
-use Rattle.register.specs.RunLaws.{Led, led-fed, run-led, lastModel, Met, run-met, mounted-led}
+use Rattle.register.specs.RunLaws.{Led, led-fed, run-led, lastModel, run-met, mounted-led}
 use Rattle.register.specs.ClaimLaws.{demand}
 
 -- the last call of a run is the one that left the last state

@@ -10,7 +10,7 @@ use Rattle.log.specs.PartitionLaws.{applyAll, ApplyInTurn, AllFit, picked, Clos
 use Rattle.session.specs.Call.{Geometry}
 use Rattle.session.specs.Model.{Model}
 use Rattle.session.specs.PossibleLaws.{Sound}
-use Rattle.register.specs.Register.{Fate, lost, Acknowledged, Register, isWaiting, isSent}
+use Rattle.register.specs.Register.{lost, Acknowledged, Register, isWaiting, isSent}
 use Rattle.register.specs.History.{directly}
 use Rattle.register.specs.Claim.{lossOf}
 use Rattle.register.specs.FateLaws.{Among, isLive}

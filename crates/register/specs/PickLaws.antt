@@ -1,16 +1,16 @@
 -- Lists of operations that tests pick: after a change of their elements, picked twice, and put end to end.
-use Prim.Native.Nat.{ℕ, zero, suc, _+_}
+use Prim.Native.Nat.{ℕ}
 use native.Mathlib.Omega.{arith}
 use mathlib.Core.Path.{_≡_, refl, sym, ap, _∙_, subst}
 use mathlib.Core.Logic.{⊎-elim}
 use mathlib.Core.List.{List, [], _∷_, _++_, map, List·Memᴰ, List·Memᴰ·head, List·Memᴰ·tail, List·Memᴰ·not-nil, List·Memᴰ·cases-cons, append-nil}
-use mathlib.Core.Bool.{Bool, true, false, not, _&&_, _||_, cond}
+use mathlib.Core.Bool.{Bool, true, false, cond}
 use Rattle.records.specs.Operation.{Record}
 use Rattle.records.specs.Fields.{valid, fits}
 use Rattle.search.specs.Volume.{Volume}
 use Rattle.applies.specs.Apply.{applies, apply}
 use Rattle.log.specs.Order.{directlyPrecedes}
-use Rattle.log.specs.PartitionLaws.{applyAll, ApplyInTurn, AllFit, PrecedesNone, picked, picked-yes, picked-no, picked-in, Closed}
+use Rattle.log.specs.PartitionLaws.{applyAll, ApplyInTurn, AllFit, picked, picked-yes, picked-no, Closed}
 
 pub picked-none : {A : Type 0} (f : A → Bool) → picked f [] ≡ []
 unfolding picked

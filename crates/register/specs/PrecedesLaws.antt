@@ -1,25 +1,22 @@
 -- What "precedes" of the history means among the operations that wait: what precedes in the list of their records.
 use Prim.Native.Nat.{ℕ, _<_}
 use native.Mathlib.Omega.{arith}
-use mathlib.Core.Path.{_≡_, refl, sym, ap, _∙_, subst}
+use mathlib.Core.Path.{_≡_, refl, ap, _∙_, subst}
 use mathlib.Core.Logic.{_⊎_, _↔_, inl, inr, ⊎-elim}
-use mathlib.Core.List.{List, [], _∷_, List·Memᴰ}
-use mathlib.Core.Bool.{Bool, true, false, not, _&&_, cond, and-eq-true-iff}
-use lib.Dec.{ltb}
-use borrow.Author.Tests.{ltb-true, lt-ltb, not-true}
+use mathlib.Core.List.{List, List·Memᴰ}
+use mathlib.Core.Bool.{Bool, true, false, _&&_, and-eq-true-iff}
+use borrow.Author.Tests.{lt-ltb}
 use Rattle.records.specs.Operation.{Record, operands}
 use Rattle.records.specs.Fields.{member}
-use Rattle.log.specs.Order.{directlyPrecedes, before, preceded, PrecedesIn}
-use Rattle.log.specs.OrderLaws.{Rising, InOrder, Reason, hasOperand, before-earlier, before-ordered, before-of, preceded-exact, needed-exact}
-use Rattle.log.specs.PartitionLaws.{picked, picked-in}
+use Rattle.log.specs.Order.{before, preceded, PrecedesIn}
+use Rattle.log.specs.OrderLaws.{Rising, Reason, hasOperand, before-earlier, before-ordered, before-of, preceded-exact, needed-exact}
 use Rattle.register.specs.Register.{Register, Acknowledged, isWaiting, isSent, chosen, waitingIn, neededFor}
 use Rattle.register.specs.History.{Is, goneBy, lostBefore, directly, Precedes}
-use Rattle.register.specs.Claim.{lossOf, Covers, Unpreceded}
-use Rattle.register.specs.FateLaws.{Among, FateIs, waits, went, gone, fate-is, no-both, waits-not-sent, waiting-there}
+use Rattle.register.specs.Claim.{Covers, Unpreceded}
+use Rattle.register.specs.FateLaws.{FateIs, waits, went, gone, fate-is, no-both, waits-not-sent, waiting-there}
 use Rattle.register.specs.InvariantLaws.{Timed}
-use Rattle.register.specs.SendLaws.{in-picked, there-picked}
 use Rattle.register.specs.OperationLaws.{chosen-picked, chosen-there, chosen-in, chosen-rising, Waits, waits-of}
-use Rattle.register.specs.TimedLaws.{Before, directly-inv, directly-of}
+use Rattle.register.specs.TimedLaws.{directly-inv, directly-of}
 use Rattle.session.specs.ReadyLaws.{Ready}
 
 -- whoever precedes has the smaller number

@@ -1,12 +1,12 @@
 -- Document 01, "The register": what it holds, and how each call's arguments and answers change it.
 use Prim.Native.Nat.{ℕ, _+_}
 use mathlib.Core.List.{List, [], _∷_, _++_, map}
-use mathlib.Core.Bool.{Bool, true, false, not, _&&_, _||_, cond}
+use mathlib.Core.Bool.{Bool, true, false, not, _||_, cond}
 use lib.ListN.{length}
-use lib.Dec.{ltb, eqb}
+use lib.Dec.{eqb}
 use Rattle.records.specs.Operation.{Operation, Record}
 use Rattle.search.specs.Volume.{Volume}
-use Rattle.log.specs.Order.{directlyPrecedes, needed}
+use Rattle.log.specs.Order.{needed}
 use Rattle.session.specs.Call.{Call, Answer}
 use Rattle.session.specs.Effect.{Effect, note, issue, send, discard, take, renew, effectsOf}
 use Rattle.register.specs.Replay.{replay}

@@ -1,7 +1,7 @@
 -- Document 01, "The register": "A replay applies a set in issue order to the volume as mounted, passing over what does not
 -- apply".
 use mathlib.Core.List.{List, [], _∷_}
-use mathlib.Core.Bool.{Bool, true, false, cond}
+use mathlib.Core.Bool.{cond}
 use Rattle.records.specs.Operation.{Record}
 use Rattle.search.specs.Volume.{Volume}
 use Rattle.applies.specs.Apply.{applies, apply}

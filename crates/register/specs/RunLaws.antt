@@ -2,21 +2,21 @@
 use Prim.Native.Nat.{ℕ}
 use mathlib.Core.Path.{_≡_, refl, sym, ap, _∙_, subst}
 use mathlib.Core.Logic.{⊎-elim}
-use mathlib.Core.List.{List, [], _∷_, _++_, map, List·Memᴰ, List·Memᴰ·head, List·Memᴰ·tail, List·Memᴰ·not-nil, List·Memᴰ·cases-cons, append-assoc, append-nil, map-append}
+use mathlib.Core.List.{List, [], _∷_, _++_, map, List·Memᴰ, List·Memᴰ·not-nil, List·Memᴰ·cases-cons, append-assoc, append-nil, map-append}
 use mathlib.Core.Option.{some}
 use Rattle.records.specs.Operation.{Record}
 use Rattle.records.specs.Fields.{encode}
 use Rattle.search.specs.Volume.{Volume}
 use Rattle.session.specs.Call.{Geometry, Buffers, Call, Answer}
 use Rattle.session.specs.Model.{Model}
-use Rattle.session.specs.Effect.{Effect, note, issue, send, discard, take, renew, perform, effectsOf}
+use Rattle.session.specs.Effect.{Effect, note, issue, send, discard, take, renew, perform}
 use Rattle.session.specs.Step.{answerOf, effectsIn, leavesOf, step, mount, decodeModel}
 use Rattle.session.specs.PossibleLaws.{Possible}
 use Rattle.session.specs.EffectLaws.{perform-sound}
 use Rattle.session.specs.CallLaws.{call-possible}
-use Rattle.session.specs.StepLaws.{Holds, Steps, step-holds, mountedModel, mount-holds}
+use Rattle.session.specs.StepLaws.{Holds, step-holds, mountedModel, mount-holds}
 use Rattle.register.specs.Register.{Register, opened, happen, happenAll, feed}
-use Rattle.register.specs.Run.{State, Moment, Run, next, run, Mounted, play}
+use Rattle.register.specs.Run.{State, Moment, Run, next, run, Mounted}
 use Rattle.register.specs.Takes.{fetchedBy}
 use Rattle.register.specs.Takes
 use Rattle.register.specs.InvariantLaws.{Good}
@@ -24,7 +24,7 @@ use Rattle.register.specs.GoodLaws.{effect-good, good-all, feed-effects,
 use Rattle.register.specs.SinceLaws.{Since, since-same, since-then, all-since}
 use Rattle.register.specs.KnownLaws.{Known, opened-known, known-all}
 use Rattle.register.specs.FetchedLaws.{Fetched, takenBy}
-use Rattle.register.specs.FetchLaws.{fetched-all, fetched-same, opened-fetched}
+use Rattle.register.specs.FetchLaws.{fetched-all, fetched-same}
 use Rattle.register.specs.TakeLaws.{wrote-taken}
 
 -- the buffers store a model, with which the register agrees

@@ -1,21 +1,21 @@
 -- One more send: a waiting operation with no waiting direct predecessor applies to the server, and the server is then the replay
 -- in issue order of the sent ones with it.
-use Prim.Native.Nat.{ℕ, zero, suc, _+_, _≤_, _<_}
+use Prim.Native.Nat.{ℕ, _<_}
 use native.Mathlib.Omega.{arith}
 use mathlib.Core.Path.{_≡_, refl, sym, ap, _∙_, subst}
-use mathlib.Core.Logic.{_⊎_, inl, inr, ⊎-elim}
-use mathlib.Core.List.{List, [], _∷_, _++_, map, List·Memᴰ, List·Memᴰ·head, List·Memᴰ·tail, List·Memᴰ·not-nil, List·Memᴰ·cases-cons, append-nil}
-use mathlib.Core.Bool.{Bool, true, false, not, _&&_, _||_, cond}
+use mathlib.Core.Logic.{⊎-elim}
+use mathlib.Core.List.{List, [], _∷_, List·Memᴰ, List·Memᴰ·head, List·Memᴰ·tail, List·Memᴰ·not-nil, List·Memᴰ·cases-cons}
+use mathlib.Core.Bool.{Bool, true, false, not, _||_, cond}
 use lib.Dec.{eqb}
-use borrow.Author.Tests.{eqb-true, eqb-false, eq-eqb, ne-eqb}
+use borrow.Author.Tests.{eqb-true, eq-eqb, ne-eqb}
 use Rattle.records.specs.Operation.{Record}
 use Rattle.search.specs.Volume.{Volume}
 use Rattle.search.specs.Form.{wellFormed}
 use Rattle.applies.specs.Apply.{applies, apply}
 use Rattle.log.specs.Order.{directlyPrecedes}
 use Rattle.log.specs.OrderLaws.{Rising, or-cases}
-use Rattle.log.specs.PartitionLaws.{applyAll, ApplyInTurn, AllFit, PrecedesNone, picked, picked-yes, picked-no, picked-in, Closed, Swap, Parted, partition}
-use Rattle.register.specs.PickLaws.{picked-same, picked-twice, picked-none, closed-within}
+use Rattle.log.specs.PartitionLaws.{applyAll, ApplyInTurn, AllFit, picked, picked-yes, picked-no, picked-in, Closed, Swap, partition}
+use Rattle.register.specs.PickLaws.{picked-twice, closed-within}
 
 module _ {A : Type 0} (rec : A → Record) where
   key : A → ℕ

@@ -17,7 +17,7 @@ use Rattle.records.specs.Kind.{codeOf}
 use Rattle.buffer.specs.Numeral.{Bytes}
 use Rattle.records.specs.Operation.{Record, kindOf}
 use Rattle.records.specs.Fields.{encode, valid, between, validHead}
-use Rattle.reader.specs.Reader.{recordAt}
+use Rattle.reader.specs.Code.Reader.{recordAt}
 use Rattle.reader.specs.Answer.{wholeOf, Exact, read, refused}
 use Rattle.reader.specs.ExactLaws.{exact}
 use Rattle.records.specs.RecordLaws.{valid-inv, encode-length}

@@ -10,7 +10,7 @@ use Rattle.records.specs.Operation.{Record}
 use Rattle.records.specs.Fields.{encode, valid}
 use Rattle.reader.specs.declared.Reading.{Reading}
 use Rattle.buffer.specs.Numeral.{Bytes}
-use Rattle.reader.specs.Reader.{recordAt}
+use Rattle.reader.specs.Code.Reader.{recordAt}
 use Rattle.reader.specs.Answer.{Exact, read, refused}
 use Rattle.records.specs.DecodeLaws.{encode-unique}
 use Rattle.reader.specs.ExactLaws.{exact}

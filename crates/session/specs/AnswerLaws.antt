@@ -1,21 +1,19 @@
 -- What answers tell: a refusal's results are 0 and its buffer is as before; an accepted change tells the next number; an fsync what it
 -- needs, what it sent, or where it stopped; and why a call says that something is damaged.
-use Prim.Native.Nat.{ℕ, zero, suc, _<_, _≤_}
+use Prim.Native.Nat.{ℕ, _<_}
 use native.Mathlib.Omega.{arith}
 use mathlib.Core.Path.{_≡_, refl, sym, ap, _∙_, subst}
-use mathlib.Core.Logic.{⊎-elim}
-use mathlib.Core.List.{List, [], _∷_, _++_, List·Memᴰ}
+use mathlib.Core.List.{List, [], _∷_, _++_}
 use mathlib.Core.Bool.{Bool, true, false, not, cond, false≢true}
 use mathlib.Core.Option.{Option, none, some}
 use lib.ListN.{length, replicate}
 use lib.ListN
-use lib.Dec.{leb, ltb, eqb}
-use borrow.Author.Tests.{eqb-true, eqb-false, eq-eqb, ne-eqb, ltb-false, lt-ltb, not-false}
+use lib.Dec.{ltb}
 use Rattle.returned.specs.Returned
 use Rattle.records.specs.Operation.{Operation, Record}
 use Rattle.records.specs.Fields.{objectsOf}
 use Rattle.search.specs.Volume.{Volume, search}
-use Rattle.applies.specs.Apply.{applies, apply}
+use Rattle.applies.specs.Apply.{applies}
 use Rattle.questions.specs.declared.object.Stat.{Stat}
 use Rattle.questions.specs.declared.object.Stat.the-variants.{Is, BadNumber as StatBadNumber, NoObject as StatNoObject}
 use Rattle.questions.specs.declared.reading.Copied.{Copied}
@@ -30,22 +28,21 @@ use Rattle.questions.specs.Answer.{listAnswer, listLeft, listLeaves, listNumber
 use Rattle.log.specs.Change.{waitingOf, waitingAt}
 use Rattle.log.specs.Order.{any, before, needed, preceded}
 use Rattle.log.specs.OrderLaws.{direct-decides}
-use Rattle.session.specs.Call.{Geometry, Call, lookup, list, stat, read, createFile, makeDirectory, remove, rename, write, setLength, forder, push, fsync, cut, Answer, answer, resultCount, ownBuffer, refusal}
+use Rattle.session.specs.Call.{Geometry, Call, lookup, list, stat, read, createFile, makeDirectory, remove, rename, write, setLength, forder, push, fsync, cut, Answer, answer, resultCount, ownBuffer}
 use Rattle.session.specs.Call
 use Rattle.session.specs.Refusal.{Row, row}
 use Rattle.session.specs.Refusal
 use Rattle.session.specs.Model.{Model, unless, badProgram, isMarked}
 use Rattle.session.specs.Issue.{issues, alters, onFound, displaced, writes}
-use Rattle.session.specs.Question.{asked, lookupOf, listOf, statOf, readOf}
+use Rattle.session.specs.Question.{lookupOf, listOf, statOf, readOf}
 use Rattle.session.specs.Edit.{roomRows, changed, makeRows, makeOf, removeRows, removeOf, renameRows, renameOf, writeRows, writeOf, lengthRows, setLengthOf, forderRows, forderOf}
 use Rattle.session.specs.Send.{ofRecord, pushOf, applying, synced, fsyncOf, noLoss, takeOf, renewOf}
-use Rattle.session.specs.Effect.{Effect, acceptedEffects, refusedEffects, brokenSync, issuing, effectsOf}
-use Rattle.session.specs.Step.{answerOf, effectsIn}
+use Rattle.session.specs.Effect.{acceptedEffects, issuing}
+use Rattle.session.specs.Step.{answerOf}
 use Rattle.session.specs.RefusalLaws.{numbered, lacks, Decided, passes, refuses, decided, passed, accepted-passes, own-number}
-use Rattle.session.specs.PossibleLaws.{Sound, Sendable}
-use Rattle.session.specs.IssuingLaws.{Issuing}
-use Rattle.session.specs.EditLaws.{create-accepted, make-accepted, remove-accepted, rename-accepted, write-accepted, length-accepted, forder-accepted}
-use Rattle.session.specs.CallLaws.{Synced, whole, partly, broken, synced-is, Syncs, syncRows, sync-accepted, sync-link, sync-damaged}
+use Rattle.session.specs.PossibleLaws.{Sound}
+use Rattle.session.specs.EditLaws.{remove-accepted, rename-accepted}
+use Rattle.session.specs.CallLaws.{Synced, whole, partly, broken, synced-is, syncRows, sync-accepted, sync-link, sync-damaged}
 
 -- a refusal as it should be: no result, and the own buffer as before
 pub record Plain (c : Call) (a : Answer) : Type 0 where

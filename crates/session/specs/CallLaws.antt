@@ -2,30 +2,29 @@
 use Prim.Native.Nat.{ℕ, _≤_, _<_}
 use native.Mathlib.Omega.{arith}
 use mathlib.Core.Path.{_≡_, refl, sym, ap, _∙_, subst}
-use mathlib.Core.List.{List, [], _∷_, _++_, List·Memᴰ}
-use mathlib.Core.Bool.{Bool, true, false, not, cond, false≢true}
+use mathlib.Core.List.{List, [], _∷_, _++_}
+use mathlib.Core.Bool.{Bool, true, false, cond, false≢true}
 use mathlib.Core.Option.{Option, none, some}
 use lib.ListN.{length, getD}
 use lib.ListN
 use lib.Dec.{leb, ltb, eqb}
-use borrow.Author.Tests.{ltb-true, ltb-false, leb-true, leb-false, eqb-true, eqb-false, eq-eqb, ne-eqb, not-false}
+use borrow.Author.Tests.{ltb-true, ltb-false, leb-true, leb-false, eqb-true, not-false}
 use Rattle.returned.specs.Returned
 use Rattle.records.specs.Operation.{Operation, Record}
 use Rattle.search.specs.Volume.{Volume, search}
 use Rattle.applies.specs.Apply.{applies}
-use Rattle.log.specs.Change
 use Rattle.log.specs.Change.{waitingOf, waitingAt, earliest, isLossOf}
 use Rattle.log.specs.ChangeLaws.{noted-waiting, waiting-in-order}
-use Rattle.log.specs.Order.{any, before, needed, preceded}
+use Rattle.log.specs.Order.{needed, preceded}
 use Rattle.log.specs.OrderLaws.{direct-decides}
 use Rattle.session.specs.Call.{Geometry, Call, lookup, list, stat, read, createFile, makeDirectory, remove, rename, write, setLength, forder, push, fsync, cut, Answer, answer}
 use Rattle.session.specs.Call
 use Rattle.session.specs.Refusal.{Row, row}
 use Rattle.session.specs.Model.{Model, unless, badProgram, isMarked, outside, isFree}
-use Rattle.session.specs.Issue.{issues, onFound, displaced}
-use Rattle.session.specs.Question.{asked, lookupOf, listOf, statOf, readOf}
+use Rattle.session.specs.Issue.{onFound, displaced}
+use Rattle.session.specs.Question.{lookupOf, listOf, statOf, readOf}
 use Rattle.session.specs.Send.{ofRecord, pushOf, applying, synced, fsyncOf, noLoss, takeOf, renewOf}
-use Rattle.session.specs.Effect.{Effect, note, discard, performAll, perform, sends, issuing, acceptedEffects, brokenSync, refusedEffects, effectsOf}
+use Rattle.session.specs.Effect.{note, discard, perform, sends, issuing, acceptedEffects, brokenSync, refusedEffects, effectsOf}
 use Rattle.session.specs.Step.{answerOf, effectsIn, leavesOf}
 use Rattle.session.specs.RefusalLaws.{numbered, passed, accepted-passes, own-number}
 use Rattle.session.specs.PossibleLaws.{Sound, Sendable, AllPossible}

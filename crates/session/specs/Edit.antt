@@ -12,7 +12,7 @@ use Rattle.entry.specs.Entry.{isUsed, isFile, isDirectory, kindNumber, contents
 use Rattle.search.specs.Volume.{Volume, entryAt, search, hasChildren}
 use Rattle.applies.specs.Apply.{isAbsent}
 use Rattle.log.specs.Order.{any}
-use Rattle.session.specs.Call.{Geometry, Call, createFile, remove, rename, write, setLength, forder, Answer, answer}
+use Rattle.session.specs.Call.{Geometry, Call, remove, rename, write, setLength, forder, Answer, answer}
 use Rattle.session.specs.Issue.{displaced, issues}
 use Rattle.session.specs.Refusal.{Row, row}
 use Rattle.session.specs.Model.{Model, unless, badProgram, isMarked, isBad, isLong, outside, isFree, noSlots, noNumbers}

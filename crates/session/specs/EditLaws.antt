@@ -8,7 +8,7 @@ use mathlib.Core.Bool.{Bool, true, false, not, _&&_, _||_, cond, and-eq-true-iff
 use mathlib.Core.Option.{Option, none, some}
 use lib.ListN.{length}
 use lib.Dec.{leb, ltb, eqb}
-use borrow.Author.Tests.{leb-true, leb-false, ltb-true, ltb-false, eqb-false, eq-eqb, le-leb, lt-ltb, not-true, not-false}
+use borrow.Author.Tests.{leb-true, ltb-true, ltb-false, eqb-false, eq-eqb, le-leb, lt-ltb, not-true, not-false}
 use Rattle.names.specs.declared.NameText.{NameText}
 use Rattle.names.specs.declared.NameText.the-variants.{Fine, Bad, Long}
 use Rattle.names.specs.Name.{validName, nameTextOf}
@@ -18,7 +18,6 @@ use Rattle.records.specs.Fields.{validList, different, allUpTo, allBelow, objec
 use Rattle.records.specs.ListLaws.{count-objects}
 use Rattle.entry.specs.Entry.{directory, isUsed, isFile, isDirectory, kindNumber, contentsOf}
 use Rattle.search.specs.Volume.{Volume, entryAt, search, hasChildren, isChild, isNamed}
-use Rattle.search.specs.Form.{wellFormed}
 use Rattle.search.specs.FormLaws.{well-formed-inv, lowest-some}
 use Rattle.applies.specs.Apply.{applies, isAbsent, isAt, hasRoom, yields}
 use Rattle.log.specs.Order.{any}

@@ -1,8 +1,8 @@
 -- Operations that one call issues, a list of any length: where there is room for all, each may be issued in its turn.
 use Prim.Native.Nat.{ℕ, suc, _+_, _≤_, _<_}
 use native.Mathlib.Omega.{arith}
-use mathlib.Core.Path.{_≡_, refl, sym, ap, _∙_, subst}
-use mathlib.Core.List.{List, [], _∷_, _++_}
+use mathlib.Core.Path.{_≡_, refl, sym, subst}
+use mathlib.Core.List.{List, [], _∷_}
 use mathlib.Core.Bool.{true}
 use lib.ListN.{length, length-append}
 use Rattle.records.specs.Operation.{Operation, operands}
@@ -12,7 +12,7 @@ use Rattle.log.specs.Change
 use Rattle.log.specs.ChangeLaws.{noted-length}
 use Rattle.session.specs.Call.{Geometry}
 use Rattle.session.specs.Model.{Model}
-use Rattle.session.specs.Effect.{Effect, note, issue, perform, issuing}
+use Rattle.session.specs.Effect.{note, issue, perform, issuing}
 use Rattle.session.specs.IssueLaws.{Recordable}
 use Rattle.session.specs.PossibleLaws.{Issuable, AllPossible}
 

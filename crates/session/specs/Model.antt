@@ -1,6 +1,6 @@
 -- What a call works on: the two volumes and the log that the buffers store; and the conditions that most calls ask.
 use Prim.Native.Nat.{ℕ, _+_}
-use mathlib.Core.List.{List, [], _∷_}
+use mathlib.Core.List.{List}
 use mathlib.Core.Bool.{Bool, true, false, not, cond}
 use lib.ListN.{length}
 use lib.Dec.{ltb, eqb}

@@ -1,6 +1,6 @@
 -- Sends in issue order of waiting operations, with every waiting predecessor of a member: each may be sent in its turn, as far as they
 -- apply.
-use Prim.Native.Nat.{ℕ, zero, suc, _+_, _≤_, _<_}
+use Prim.Native.Nat.{ℕ, zero, suc, _≤_, _<_}
 use native.Mathlib.Omega.{arith}
 use mathlib.Core.Path.{_≡_, refl, sym, ap, _∙_, subst}
 use mathlib.Core.Logic.{⊎-elim}
@@ -11,14 +11,13 @@ use lib.ListN.{length, take}
 use Rattle.records.specs.Operation.{Record}
 use Rattle.search.specs.Volume.{Volume}
 use Rattle.applies.specs.Apply.{applies, apply}
-use Rattle.log.specs.Change
 use Rattle.log.specs.Change.{waitingOf, waitingAt}
 use Rattle.log.specs.ChangeLaws.{waiting-at, sent-waiting, waiting-in-order}
 use Rattle.log.specs.Order.{any, before, needed, direct}
 use Rattle.log.specs.OrderLaws.{InOrder, any-in, before-earlier, needed-in, needed-sublist, needed-closed}
 use Rattle.session.specs.Call.{Geometry}
 use Rattle.session.specs.Model.{Model}
-use Rattle.session.specs.Effect.{Effect, send, sentFound, perform, sends}
+use Rattle.session.specs.Effect.{send, perform, sends}
 use Rattle.session.specs.Send.{applying}
 use Rattle.session.specs.PossibleLaws.{Sound, Sendable, AllPossible}
 use Rattle.session.specs.EffectLaws.{send-is, perform-sound}

@@ -1,4 +1,4 @@
--- Document 01, "Returned numbers": "The lowestNumber number wins." A call's refusals are a table: conditions, each with its number.
+-- Document 01, "Returned numbers": "The lowest number wins." A call's refusals are a table: conditions, each with its number.
 use Prim.Native.Nat.{ℕ, min}
 use mathlib.Core.List.{List, [], _∷_}
 use mathlib.Core.Bool.{Bool, cond}

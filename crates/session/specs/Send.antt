@@ -1,5 +1,5 @@
 -- Document 01, "Calls": what push, fsync, cut, take and renew answer.
-use Prim.Native.Nat.{ℕ, zero, suc, _+_}
+use Prim.Native.Nat.{ℕ, suc}
 use mathlib.Core.List.{List, [], _∷_}
 use mathlib.Core.Bool.{Bool, true, false, not, cond}
 use mathlib.Core.Option.{Option, none, some}
@@ -14,8 +14,8 @@ use Rattle.search.specs.Volume.{Volume}
 use Rattle.applies.specs.Apply.{applies, apply}
 use Rattle.log.specs.Order.{needed, preceded}
 use Rattle.log.specs.Change.{waitingOf, waitingAt, earliest, isLossOf}
-use Rattle.session.specs.Call.{Call, push, fsync, take, renew, Answer, answer}
-use Rattle.session.specs.Refusal.{Row, row}
+use Rattle.session.specs.Call.{push, fsync, take, renew, Answer, answer}
+use Rattle.session.specs.Refusal.{row}
 use Rattle.session.specs.Model.{Model, unless, badProgram, isMarked, outside, isFree}
 
 -- what is asked of a record where one was found; where none was, given

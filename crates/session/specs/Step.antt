@@ -59,7 +59,7 @@ encodeModel g x =
       log = encodeLog (g .capacity) (x .log);
     }
 
--- the model that the three buffers store; "each of the three has its own form only"
+-- the model that the three buffers store; each of the three has its own form only
 abbrev pub joinModel : Option Volume → Option Volume → Option Log → Option Model
 joinModel none v l = none
 joinModel (some s) none l = none

@@ -10,7 +10,6 @@ use Rattle.search.specs.Volume.{Volume}
 use Rattle.search.specs.Stored.{decodeVolume, isSome}
 use Rattle.search.specs.StoredLaws
 use Rattle.log.specs.Slot.{Log, emptyLog}
-use Rattle.log.specs.Slot
 use Rattle.log.specs.SlotLaws.{empty-good}
 use Rattle.log.specs.Stored.{encodeLog}
 use Rattle.log.specs.StoredLaws as LogLaws

@@ -9,8 +9,8 @@ use lib.ListN.{length, set}
 use Rattle.records.specs.declared.kind.Kind.the-variants.{CreateFile, MakeDirectory, Remove, Rename, Overwrite, Append, SetLength, Forder}
 use Rattle.reader.specs.declared.Whole.{Whole}
 use Rattle.records.specs.Fields.{standsIn, displacedIf}
-use Rattle.buffer.specs.Span.{stretch}
-use Rattle.reader.specs.Answer.{recordFrom}
+use Rattle.buffer.specs.Code.Span.{stretch}
+use Rattle.reader.specs.Code.Found.{recordFrom}
 use Rattle.entry.specs.Entry.{free, isUsed, isFile, contentsOf, renamed, refilled}
 use Rattle.entry.specs.Stored.{entryOf}
 use Rattle.buffer.specs.Patch.{patch}

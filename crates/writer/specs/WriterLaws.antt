@@ -17,7 +17,7 @@ use Rattle.records.specs.Fields.{field, text, objectFields, nameFields, rangeFi
 use Rattle.records.specs.ListLaws.{count-objects, pairs-objects}
 use Rattle.records.specs.RecordLaws.{length-head}
 use Rattle.buffer.specs.Patch.{patch, Put}
-use Rattle.writer.specs.Writer.{Written, displacedBy, entryRecord, renameRecord, rangeRecord, lengthRecord, forderRecord}
+use Rattle.writer.specs.Code.Writer.{Written, displacedBy, entryRecord, renameRecord, rangeRecord, lengthRecord, forderRecord}
 
 -- what is put at the start, if it is a record's bytes, is the record written
 pub put-written : (r : Record) {v a b : List ℕ} {n : ℕ} → Put v 0 a b n → encode r ≡ v → Written r a b n

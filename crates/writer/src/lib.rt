@@ -9,7 +9,7 @@ ghost use Rattle.buffer.specs.Numeral.{bytes};
 ghost use Rattle.records.specs.Operation.{mapWith};
 ghost use Rattle.records.specs.Fields.{field, text, headBytes};
 ghost use Rattle.buffer.specs.Patch.{Put};
-ghost use Rattle.writer.specs.Writer.{Writable, Written, displacedBy, entryRecord, renameRecord, rangeRecord, lengthRecord, forderRecord};
+ghost use Rattle.writer.specs.Code.Writer.{Writable, Written, displacedBy, entryRecord, renameRecord, rangeRecord, lengthRecord, forderRecord};
 use buffer::put::put_bytes;
 use buffer::put::put_four;
 use buffer::put::put_one;

@@ -8,7 +8,7 @@ use lib.ListN.{set}
 use Rattle.reader.specs.declared.Whole.{Whole}
 use Rattle.records.specs.Operation.{Operation}
 use Rattle.records.specs.Fields.{valid, fits}
-use Rattle.reader.specs.Answer.{recordFrom}
+use Rattle.reader.specs.Code.Found.{recordFrom}
 use Rattle.entry.specs.Entry.{free}
 use Rattle.search.specs.Volume.{Volume}
 use Rattle.search.specs.Form.{wellFormed}

@@ -9,7 +9,7 @@ use Rattle.names.specs.Name.{longestName, validName}
 use Rattle.buffer.specs.Numeral.{numeral}
 use Rattle.entry.specs.Entry.{Entry, free, file, directory, root, kindNumber}
 use Rattle.entry.specs.Stored.{lengthAt, dataAt, blockBytes, readEntry}
-use Rattle.buffer.specs.Zero.{zeros}
+use Rattle.buffer.specs.Code.Zero.{zeros}
 
 -- "a valid name" of at most 60 bytes, and zeros behind it up to the file length
 unfoldable pub nameFormed : List ℕ → Bool

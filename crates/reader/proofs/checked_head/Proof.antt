@@ -1,6 +1,6 @@
 -- `reader::checked_head` meets its contract: the tests are those of `headOf`.
 -- Assumes nothing.
-use Rattle.reader.specs.Reader.{headOf}
+use Rattle.reader.specs.Code.Reader.{headOf}
 use Rattle.reader.proofs.checked_head.Statement.{statement}
 use Rattle.reader.proofs.checked_head.Tie as tie
 

@@ -1,6 +1,6 @@
 -- `reader::tied` meets its contract: the two tests are those of `tiedAt`.
 -- Assumes nothing.
-use Rattle.reader.specs.Reader.{tiedAt}
+use Rattle.reader.specs.Code.Reader.{tiedAt}
 use Rattle.reader.proofs.tied.Statement.{statement}
 use Rattle.reader.proofs.tied.Tie as tie
 

@@ -2,7 +2,7 @@
 use Prim.Native.Nat.{_+_}
 use mathlib.Core.Path.{sym, ap, _∙_}
 use borrow.Author.Needs.{needs}
-use Rattle.buffer.specs.Zero.{zeros}
+use Rattle.buffer.specs.Code.Zero.{zeros}
 use Rattle.entry.specs.TestLaws.{take-rest, data-long, data-short}
 use Rattle.entry.proofs.form.data_formed.Statement.{statement}
 use Rattle.entry.proofs.form.data_formed.Tie as tie

@@ -1,7 +1,7 @@
 -- `entry::form::entry_formed` meets its contract, by the kind's byte. Assumes nothing.
 use mathlib.Core.Path.{sym, ap, _∙_}
 use borrow.Author.Needs.{needs}
-use Rattle.buffer.specs.Zero.{zeros}
+use Rattle.buffer.specs.Code.Zero.{zeros}
 use Rattle.entry.specs.TestLaws.{take-rest, free-formed, kind-unknown, name-unformed, file-formed, directory-formed}
 use Rattle.entry.proofs.form.entry_formed.Statement.{statement}
 use Rattle.entry.proofs.form.entry_formed.Tie as tie

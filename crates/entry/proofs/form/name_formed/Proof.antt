@@ -10,7 +10,7 @@ use borrow.Author.Needs.{needs}
 use Rattle.names.specs.declared.NameText.{NameText}
 use Rattle.names.specs.Name.{nameTextOf}
 use Rattle.names.specs.NameLaws.{fine-valid, bad-invalid, long-invalid}
-use Rattle.buffer.specs.Zero.{zeros}
+use Rattle.buffer.specs.Code.Zero.{zeros}
 use Rattle.entry.specs.TestLaws.{take-part, name-long, name-invalid, name-zeros}
 use Rattle.entry.proofs.form.name_formed.Statement.{statement}
 use Rattle.entry.proofs.form.name_formed.Tie as tie

@@ -1,7 +1,7 @@
 -- `entry::form::root_formed` meets its contract: the kind's byte, and the bytes behind it. Assumes nothing.
 use mathlib.Core.Path.{sym, ap, _∙_}
 use borrow.Author.Needs.{needs}
-use Rattle.buffer.specs.Zero.{zeros}
+use Rattle.buffer.specs.Code.Zero.{zeros}
 use Rattle.entry.specs.TestLaws.{take-rest, root-other, root-zeros}
 use Rattle.entry.proofs.form.root_formed.Statement.{statement}
 use Rattle.entry.proofs.form.root_formed.Tie as tie

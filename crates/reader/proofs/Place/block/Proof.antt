@@ -1,7 +1,7 @@
 -- `reader::Place::block` meets its contract: the limits asked of the length that was read are those of `blockAt`.
 -- Assumes nothing.
 use borrow.Author.Needs.{needs}
-use Rattle.reader.specs.Reader.{blockAt}
+use Rattle.reader.specs.Code.Reader.{blockAt}
 use Rattle.reader.proofs.Place.block.Statement.{statement}
 use Rattle.reader.proofs.Place.block.Tie as tie
 

@@ -1,6 +1,6 @@
 -- `reader::Place::head` meets its contract: number after number, as `headAt` has them.
 -- Assumes nothing.
-use Rattle.reader.specs.Reader.{headAt}
+use Rattle.reader.specs.Code.Reader.{headAt}
 use Rattle.reader.proofs.Place.head.Statement.{statement}
 use Rattle.reader.proofs.Place.head.Tie as tie
 

@@ -3,7 +3,7 @@
 use borrow.Author.Needs.{needs}
 use native.Mathlib.Omega.{arith}
 use mathlib.Core.Path.{sym, _∙_}
-use Rattle.reader.specs.Reader.{listAt}
+use Rattle.reader.specs.Code.Reader.{listAt}
 use Rattle.reader.specs.ReaderLaws.{number-below}
 use Rattle.reader.proofs.Place.list.Statement.{statement}
 use Rattle.reader.proofs.Place.list.Tie as tie

@@ -2,7 +2,7 @@
 -- Assumes nothing.
 use mathlib.Core.Path.{sym, _∙_}
 use Rattle.names.specs.NameLaws.{fine-valid, bad-invalid, long-invalid}
-use Rattle.reader.specs.Reader.{nameAt}
+use Rattle.reader.specs.Code.Reader.{nameAt}
 use Rattle.reader.proofs.Place.name.Statement.{statement}
 use Rattle.reader.proofs.Place.name.Tie as tie
 

@@ -1,7 +1,7 @@
 -- `reader::Place::names` meets its contract: field after field, as `namesAt` has them.
 -- Assumes nothing.
 use borrow.Author.Needs.{needs}
-use Rattle.reader.specs.Reader.{namesAt}
+use Rattle.reader.specs.Code.Reader.{namesAt}
 use Rattle.reader.proofs.Place.names.Statement.{statement}
 use Rattle.reader.proofs.Place.names.Tie as tie
 

@@ -1,6 +1,6 @@
 -- `reader::Place::object` meets its contract: the limits asked of the number that was read are those of `objectAt`.
 -- Assumes nothing.
-use Rattle.reader.specs.Reader.{objectAt}
+use Rattle.reader.specs.Code.Reader.{objectAt}
 use Rattle.reader.proofs.Place.object.Statement.{statement}
 use Rattle.reader.proofs.Place.object.Tie as tie
 

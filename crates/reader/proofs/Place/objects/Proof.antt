@@ -1,7 +1,7 @@
 -- `reader::Place::objects` meets its contract: field after field, as `objectsAt` has them.
 -- Assumes nothing.
 use borrow.Author.Needs.{needs}
-use Rattle.reader.specs.Reader.{objectsAt}
+use Rattle.reader.specs.Code.Reader.{objectsAt}
 use Rattle.reader.proofs.Place.objects.Statement.{statement}
 use Rattle.reader.proofs.Place.objects.Tie as tie
 

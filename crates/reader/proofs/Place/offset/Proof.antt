@@ -1,7 +1,7 @@
 -- `reader::Place::offset` meets its contract: the number is read where its bit stands.
 -- Assumes nothing.
 use borrow.Author.Needs.{needs}
-use Rattle.reader.specs.Reader.{offsetAt}
+use Rattle.reader.specs.Code.Reader.{offsetAt}
 use Rattle.reader.proofs.Place.offset.Statement.{statement}
 use Rattle.reader.proofs.Place.offset.Tie as tie
 

@@ -1,6 +1,6 @@
 -- `reader::Place::range` meets its contract: field after field, as `rangeAt` has them.
 -- Assumes nothing.
-use Rattle.reader.specs.Reader.{rangeAt}
+use Rattle.reader.specs.Code.Reader.{rangeAt}
 use Rattle.reader.proofs.Place.range.Statement.{statement}
 use Rattle.reader.proofs.Place.range.Tie as tie
 

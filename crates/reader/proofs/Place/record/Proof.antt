@@ -1,6 +1,6 @@
 -- `reader::Place::record` meets its contract: the head, the fields in three parts, and what ties them, as `recordAt` has them.
 -- Assumes nothing.
-use Rattle.reader.specs.Reader.{recordAt}
+use Rattle.reader.specs.Code.Reader.{recordAt}
 use Rattle.reader.proofs.Place.record.Statement.{statement}
 use Rattle.reader.proofs.Place.record.Tie as tie
 

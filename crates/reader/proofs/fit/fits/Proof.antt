@@ -2,7 +2,7 @@
 -- Assumes nothing.
 use borrow.Author.Needs.{needs}
 use mathlib.Core.Path.{sym, _∙_}
-use Rattle.reader.specs.Fit.{fitsWhole}
+use Rattle.reader.specs.Code.Fit.{fitsWhole}
 use Rattle.reader.proofs.fit.fits.Statement.{statement}
 use Rattle.reader.proofs.fit.fits.Tie as tie
 

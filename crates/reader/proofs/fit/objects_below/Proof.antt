@@ -1,7 +1,7 @@
 -- `reader::fit::objects_below` meets its contract: the four tests are those of `objectsBelow`.
 -- Assumes nothing.
 use borrow.Author.Needs.{needs}
-use Rattle.reader.specs.Fit.{objectsBelow}
+use Rattle.reader.specs.Code.Fit.{objectsBelow}
 use Rattle.reader.proofs.fit.objects_below.Statement.{statement}
 use Rattle.reader.proofs.fit.objects_below.Tie as tie
 

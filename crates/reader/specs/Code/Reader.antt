@@ -28,7 +28,7 @@ use Rattle.records.specs.declared.kind.Coded.{Coded}
 use Rattle.records.specs.declared.kind.Coded.the-variants.{Is as KindIs, Unknown}
 use Rattle.records.specs.Kind.{kindOfCode, hasMap}
 use Rattle.buffer.specs.Numeral.{numeral}
-use Rattle.buffer.specs.Span.{span}
+use Rattle.buffer.specs.Code.Span.{span}
 use Rattle.records.specs.Fields.{standsIn, between, objectsOf, differing, inBlock, validList, validHead}
 
 abbrev pub place : ℕ → Place

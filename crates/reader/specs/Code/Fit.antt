@@ -8,7 +8,7 @@ use Rattle.reader.specs.declared.Objects.{Objects}
 use Rattle.reader.specs.declared.Whole.{Whole}
 use Rattle.records.specs.Operation.{Record}
 use Rattle.records.specs.Fields.{standsIn, ifStands, allBelow, withinBlocks, fits, objectsOf}
-use Rattle.buffer.specs.Span.{stretch}
+use Rattle.buffer.specs.Code.Span.{stretch}
 
 -- the record of a place fits; where there is none, it does not
 abbrev pub fitsDecoded : ℕ → ℕ → Option Record → Bool

@@ -36,13 +36,14 @@ use Rattle.records.specs.Kind.{codeOf, kindOfCode, mapOfKind, displacingMapOf, 
 use Rattle.buffer.specs.Numeral.{bytes, Bytes}
 use Rattle.records.specs.Operation.{Record, kindOf, mapOf}
 use Rattle.records.specs.Fields.{Parts, parted, parts, standsIn, field, text, pairs, objectFields, nameFields, rangeFields, fields, headBytes, encode, validObjects, validNames, validRange, tied, differing, inBlock, validParts, validHead, valid, objectsOf, operationOf}
-use Rattle.reader.specs.Reader.{numberAt, objectAt, offsetAt, nameAt, blockAt, listAt, onNumber, onPart, headOf, headAt, objectsAt, namesAt, rangeAt, tiedAt, afterHead, afterObjects, afterNames, afterRange, recordAt}
-use Rattle.buffer.specs.Span.{span, stretch}
+use Rattle.reader.specs.Code.Reader.{numberAt, objectAt, offsetAt, nameAt, blockAt, listAt, onNumber, onPart, headOf, headAt, objectsAt, namesAt, rangeAt, tiedAt, afterHead, afterObjects, afterNames, afterRange, recordAt}
+use Rattle.buffer.specs.Code.Span.{span, stretch}
 use Rattle.records.specs.KindLaws.{code-inv}
 use Rattle.records.specs.RecordLaws.{length-head}
 use Rattle.buffer.specs.SpanLaws.{Spans, spans-append}
 use Rattle.reader.specs.SoundLaws.{number-sound, object-sound, offset-sound, name-sound, block-sound, list-sound, list-pairs}
-use Rattle.reader.specs.Answer.{spanIf, objectsIn, namesIn, rangeIn, wholeOf, partsFrom}
+use Rattle.reader.specs.Answer.{spanIf, objectsIn, namesIn, rangeIn, wholeOf}
+use Rattle.reader.specs.Code.Found.{partsFrom}
 
 -- a step that did not end in a refusal had something to go on with
 number-went : {A : Type 0} (f : Field) (refused a : A) (g : ℕ → Place → A) → (refused ≡ a → ⊥) → onNumber f refused g ≡ a
