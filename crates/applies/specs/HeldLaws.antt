@@ -2,21 +2,24 @@
 -- Assumes nothing.
 use Prim.Native.Nat.{ℕ, _<_}
 use mathlib.Core.Path.{_≡_, refl, sym, ap, _∙_}
-use mathlib.Core.List.{List, [], _∷_}
+use mathlib.Core.List.{List, [], _∷_, _++_}
 use mathlib.Core.Bool.{Bool, true, false, and-eq-true-iff, false≢true}
 use lib.Dec.{ltb}
+use native.Mathlib.Omega.{arith}
 use borrow.Author.Tests.{ltb-true}
 use Rattle.records.specs.declared.kind.Kind.{Kind}
 use Rattle.records.specs.declared.kind.Kind.the-variants.{CreateFile, MakeDirectory, Remove, Rename, Overwrite, Append, SetLength, Forder}
 use Rattle.reader.specs.declared.Objects.{Objects}
 use Rattle.reader.specs.declared.Whole.{Whole}
-use Rattle.records.specs.Operation.{Operation, present, operands}
-use Rattle.records.specs.Fields.{Parts, standsIn, allBelow, fits, operationOf, displacedIf}
-use Rattle.reader.specs.declared.Reading.the-variants.{Is as RecordIs}
+use Rattle.records.specs.Operation.{Operation, Record, present, operands}
+use Rattle.records.specs.Fields.{Parts, encode, standsIn, allBelow, valid, fits, operationOf, displacedIf}
+use Rattle.reader.specs.declared.Reading.the-variants.{Is as RecordIs, Bad as NoRecord}
 use Rattle.buffer.specs.Numeral.{Bytes}
 use Rattle.reader.specs.Code.Reader.{recordAt}
 use Rattle.reader.specs.Code.Found.{partsFrom, recordFrom, decoded, decodeAt}
-use Rattle.reader.specs.ExactLaws.{encode-decode}
+use Rattle.reader.specs.Answer.{wholeOf}
+use Rattle.reader.specs.CompleteLaws.{record-complete}
+use Rattle.reader.specs.ExactLaws.{encode-decode, record-back}
 use Rattle.reader.specs.Code.Fit.{fitsWhole, fitsDecoded}
 use Rattle.reader.specs.FitLaws.{fits-read}
 use mathlib.Core.Option.{some}
@@ -86,3 +89,18 @@ read-fitting n b s byte at w e f =
       sound = encode-decode s byte at (recordFrom s w) d .0;
       fit = sym (ap (fitsDecoded n b) d) ∙ fits-read s byte at n b w e ∙ f;
     }
+
+-- A slice that begins with the bytes of a valid record: the reader finds that record there, and it fits if the record does.
+module _ (s : List ℕ) (r : Record) (rest : List ℕ) (sound : valid r ≡ true) (e : s ≡ encode r ++ rest) where
+  held-read : recordAt s 0 ≡ RecordIs (wholeOf r 0)
+  held-read = record-complete s 0 r rest sound e
+
+  pub held-there : NoRecord ≡ recordAt s 0 → ⊥
+  held-there q = let z : _≡_ {A = ℕ} 0 1 = cc held-read in omega arith
+
+  module _ (w : Whole) (q : RecordIs w ≡ recordAt s 0) where
+    pub held-found : recordFrom s w ≡ r
+    held-found = let z : w ≡ wholeOf r 0 = cc held-read in ap (recordFrom s) z ∙ record-back s 0 r rest sound e
+
+    pub held-fitting : (n b : ℕ) → fits n b r ≡ true → Fitting n b s w
+    held-fitting n b fit = record { sound = ap valid held-found ∙ sound; fit = ap (fits n b) held-found ∙ fit }

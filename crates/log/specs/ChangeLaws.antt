@@ -107,7 +107,7 @@ noting-good n b p c s h g = go (isWaiting s && c) refl
         }
     go false e = g
 
-noted-good : (n b p : ℕ) (ops : List ℕ) (l : List Slot) → p < 32 → goodSlots n b l ≡ true → goodSlots n b (noted p ops l) ≡ true
+pub noted-good : (n b p : ℕ) (ops : List ℕ) (l : List Slot) → p < 32 → goodSlots n b l ≡ true → goodSlots n b (noted p ops l) ≡ true
 unfolding noted
 noted-good n b p ops [] h g = g
 noted-good n b p ops (s ∷ l) h g =

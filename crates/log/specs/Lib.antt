@@ -4,10 +4,16 @@ pub mod Stored
 pub mod Order
 pub mod Depend
 pub mod Change
+pub mod Sends
+pub mod Code
 pub mod OrderCases
 pub mod OrderLaws
 pub mod SlotLaws
 pub mod StoredLaws
+pub mod GeometryLaws
+pub mod NeededLaws
+pub mod FreedLaws
+pub mod BitLaws
 pub mod ProgramLaws
 pub mod ChangeLaws
 pub mod SwapLaws

@@ -1,9 +1,10 @@
 -- Document 01, "Geometry and stored form": the bytes of a log, and the log of some bytes.
 use Prim.Native.Nat.{ℕ, zero, suc, _+_, _*_, _-_}
 use mathlib.Core.List.{List, [], _∷_, _++_}
-use mathlib.Core.Bool.{_&&_, cond}
+use mathlib.Core.Bool.{Bool, true, false, _&&_, cond}
 use mathlib.Core.Option.{Option, none, some}
-use lib.ListN.{getD, take, drop, replicate}
+use lib.ListN.{length, getD, take, drop, replicate}
+use lib.Dec.{leb, eqb}
 use Rattle.buffer.specs.Numeral.{bytes, numeral}
 use Rattle.records.specs.Operation.{Record}
 use Rattle.records.specs.Fields.{encode}
@@ -66,3 +67,16 @@ readLog m s = record { next = numeral (take 4 s); marks = numeral (take 4 (drop 
 unfoldable pub decodeLog : ℕ → ℕ → ℕ → List ℕ → Option Log
 decodeLog n b m s =
     cond (wellFormed n b m (readLog m s) && sameBytes (encodeLog m (readLog m s)) s) (some (readLog m s)) none
+
+-- "n objects (2..256), b blocks a file (1..64) and m log slots (1..1,024)", and the log's bytes: else "1 Wrong buffer"
+unfoldable pub lentLog : ℕ → ℕ → ℕ → List ℕ → Bool
+lentLog n b m s =
+    (leb 2 n && leb n 256) && ((leb 1 b && leb b 64) && ((leb 1 m && leb m 1024) && eqb (length s) (logBytes m)))
+
+abbrev pub isLog : Option Log → Bool
+isLog none = false
+isLog (some l) = true
+
+-- the bytes are lent as they should be, and of the right form: else "2 Damaged"
+unfoldable pub formedLog : ℕ → ℕ → ℕ → List ℕ → Bool
+formedLog n b m s = lentLog n b m s && isLog (decodeLog n b m s)

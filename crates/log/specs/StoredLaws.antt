@@ -63,11 +63,11 @@ slot-record : (s : Slot) → valid (s .loss) ≡ true → decodeRecord (drop 8 (
 unfolding encodeSlot bytes
 slot-record s h = decode-encoded (s .loss) (replicate (1040 - length (encode (s .loss))) 0) h
 
-slot-dependents : (s : Slot) → s .dependents < 2 ^ 32 → numeral (take 4 (drop 4 (encodeSlot s))) ≡ s .dependents
+pub slot-dependents : (s : Slot) → s .dependents < 2 ^ 32 → numeral (take 4 (drop 4 (encodeSlot s))) ≡ s .dependents
 unfolding encodeSlot bytes
 slot-dependents s d = taken-four (s .dependents) (padded 1040 (encode (s .loss))) d
 
-slot-state : (s : Slot) → getD (encodeSlot s) 0 0 ≡ stateNumber (s .state) % 256
+pub slot-state : (s : Slot) → getD (encodeSlot s) 0 0 ≡ stateNumber (s .state) % 256
 unfolding encodeSlot bytes
 slot-state s = refl
 

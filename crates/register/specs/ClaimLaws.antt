@@ -23,7 +23,8 @@ use Rattle.log.specs.Change.{waitingOf, lossesOf}
 use Rattle.log.specs.ChangeLaws.{at-waiting, waiting-at, waiting-in-order}
 use Rattle.session.specs.Call.{Geometry, Buffers, Call, fsync, push, take as takeLoss, Answer}
 use Rattle.session.specs.Model.{Model}
-use Rattle.session.specs.Send.{applying, fsyncOf}
+use Rattle.log.specs.Sends.{applying}
+use Rattle.session.specs.Send.{fsyncOf}
 use Rattle.session.specs.Effect.{Effect, note, issue, send, sends, issuing, perform, acceptedEffects, refusedEffects, effectsOf}
 use Rattle.session.specs.Step.{answerOf, effectsIn, step, mount, decodeModel}
 use Rattle.session.specs.PossibleLaws.{Sendable}

@@ -21,7 +21,8 @@ use Rattle.log.specs.ChangeLaws.{waiting-at}
 use Rattle.session.specs.Call.{Geometry, Buffers, Call, lookup, list, stat, read, createFile, makeDirectory, remove, rename, write, setLength, forder, push, fsync, cut, Answer, answer, inRange, lengthsFit}
 use Rattle.session.specs.Call
 use Rattle.session.specs.Model.{Model}
-use Rattle.session.specs.Send.{applying, synced, fsyncOf}
+use Rattle.log.specs.Sends.{applying}
+use Rattle.session.specs.Send.{synced, fsyncOf}
 use Rattle.session.specs.Effect.{Effect, note, discard, sends, performAll, acceptedEffects, refusedEffects, effectsOf}
 use Rattle.session.specs.Step.{Stores, answerOf, effectsIn, leavesOf, turnedDown, encodeModel, decodeModel, onModel, step, mount}
 use Rattle.session.specs.CallLaws.{push-accepted, Synced, whole, partly, broken, synced-is, sync-damaged}

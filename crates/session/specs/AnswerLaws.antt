@@ -36,7 +36,8 @@ use Rattle.session.specs.Model.{Model, unless, badProgram, isMarked}
 use Rattle.session.specs.Issue.{issues, alters, onFound, displaced, writes}
 use Rattle.session.specs.Question.{lookupOf, listOf, statOf, readOf}
 use Rattle.session.specs.Edit.{roomRows, changed, makeRows, makeOf, removeRows, removeOf, renameRows, renameOf, writeRows, writeOf, lengthRows, setLengthOf, forderRows, forderOf}
-use Rattle.session.specs.Send.{ofRecord, pushOf, applying, synced, fsyncOf, noLoss, takeOf, renewOf}
+use Rattle.log.specs.Sends.{applying}
+use Rattle.session.specs.Send.{ofRecord, pushOf, synced, fsyncOf, noLoss, takeOf, renewOf}
 use Rattle.session.specs.Effect.{acceptedEffects, issuing}
 use Rattle.session.specs.Step.{answerOf}
 use Rattle.session.specs.RefusalLaws.{numbered, lacks, Decided, passes, refuses, decided, passed, accepted-passes, own-number}

@@ -23,7 +23,8 @@ use Rattle.session.specs.Refusal.{Row, row}
 use Rattle.session.specs.Model.{Model, unless, badProgram, isMarked, outside, isFree}
 use Rattle.session.specs.Issue.{onFound, displaced}
 use Rattle.session.specs.Question.{lookupOf, listOf, statOf, readOf}
-use Rattle.session.specs.Send.{ofRecord, pushOf, applying, synced, fsyncOf, noLoss, takeOf, renewOf}
+use Rattle.log.specs.Sends.{applying}
+use Rattle.session.specs.Send.{ofRecord, pushOf, synced, fsyncOf, noLoss, takeOf, renewOf}
 use Rattle.session.specs.Effect.{note, discard, perform, sends, issuing, acceptedEffects, brokenSync, refusedEffects, effectsOf}
 use Rattle.session.specs.Step.{answerOf, effectsIn, leavesOf}
 use Rattle.session.specs.RefusalLaws.{numbered, passed, accepted-passes, own-number}

@@ -30,7 +30,8 @@ use Rattle.questions.specs.Answer.{statAnswer, objectAnswer, readAnswer, readLe
 use Rattle.lookup.specs.Lookup.{componentAnswer, componentsAnswer, componentsObjects, lookupAnswer, lookupOperands}
 use Rattle.session.specs.Question.{lookupOf, statOf, readOf}
 use Rattle.session.specs.Edit.{makeOf, removeOf, renameOf, writeOf, setLengthOf}
-use Rattle.session.specs.Send.{pushOf, applying, fsyncOf, takeOf, renewOf}
+use Rattle.log.specs.Sends.{applying}
+use Rattle.session.specs.Send.{pushOf, fsyncOf, takeOf, renewOf}
 use Rattle.session.specs.Effect.{perform, performAll, issuing, effectsOf}
 use Rattle.session.specs.Step.{answerOf, leavesOf}
 

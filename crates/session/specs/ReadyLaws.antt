@@ -18,7 +18,7 @@ use Rattle.log.specs.OrderLaws.{InOrder, any-in, before-earlier, needed-in, nee
 use Rattle.session.specs.Call.{Geometry}
 use Rattle.session.specs.Model.{Model}
 use Rattle.session.specs.Effect.{send, perform, sends}
-use Rattle.session.specs.Send.{applying}
+use Rattle.log.specs.Sends.{applying}
 use Rattle.session.specs.PossibleLaws.{Sound, Sendable, AllPossible}
 use Rattle.session.specs.EffectLaws.{send-is, perform-sound}
 

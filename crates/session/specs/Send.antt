@@ -1,5 +1,5 @@
 -- Document 01, "Calls": what push, fsync, cut, take and renew answer.
-use Prim.Native.Nat.{ℕ, suc}
+use Prim.Native.Nat.{ℕ}
 use mathlib.Core.List.{List, [], _∷_}
 use mathlib.Core.Bool.{Bool, true, false, not, cond}
 use mathlib.Core.Option.{Option, none, some}
@@ -11,9 +11,10 @@ use Rattle.records.specs.Operation.{Record}
 use Rattle.records.specs.Fields.{encode}
 use Rattle.buffer.specs.Patch.{patch}
 use Rattle.search.specs.Volume.{Volume}
-use Rattle.applies.specs.Apply.{applies, apply}
+use Rattle.applies.specs.Apply.{applies}
 use Rattle.log.specs.Order.{needed, preceded}
 use Rattle.log.specs.Change.{waitingOf, waitingAt, earliest, isLossOf}
+use Rattle.log.specs.Sends.{applying}
 use Rattle.session.specs.Call.{push, fsync, take, renew, Answer, answer}
 use Rattle.session.specs.Refusal.{row}
 use Rattle.session.specs.Model.{Model, unless, badProgram, isMarked, outside, isFree}
@@ -30,11 +31,6 @@ pushOf q x =
     unless (push q)
     (row Returned.notFirst (ofRecord false r (preceded (waitingOf (x .log .slots)))) ∷ row Returned.none (ofRecord true r (λ a. false)) ∷ [])
     (answer (cond (ofRecord false r (λ a. applies (x .server) (a .operation))) Returned.accepted Returned.damaged) [] [])
-
--- how many of some operations apply to a volume, one after the other, up to the first that does not
-unfoldable pub applying : List Record → Volume → ℕ
-applying [] v = 0
-applying (r ∷ rs) v = cond (applies v (r .operation)) (suc (applying rs (apply v (r .operation)))) 0
 
 -- "An fsync whose bad operation is among the first k gives 2 .. keeps the sends before it and reports them"; "If k is at least d it
 -- sends d"; "17 Link lost: fsync with k below d" "sends the first k, then cuts, and reports k"

@@ -1,0 +1,74 @@
+-- `depend::note` meets its contract: the used slots are lent on as a part. Assumes nothing.
+use Prim.Native.Nat.{ℕ, _*_}
+use native.Mathlib.Omega.{arith}
+use mathlib.Core.Path.{_≡_, sym, ap, _∙_, subst}
+use mathlib.Core.List.{List}
+use lib.ListN.{length}
+use Rattle.log.specs.Slot.{Slot}
+use Rattle.log.specs.Stored.{encodeSlots, readLog}
+use Rattle.log.specs.StoredLaws.{length-slots}
+use Rattle.log.specs.Depend.{noted}
+use Rattle.log.specs.ChangeLaws.{noted-good, noted-length}
+use Rattle.log.specs.GeometryLaws.{used-slots, used-slotted, used-good}
+use Rattle.log.specs.Code.Slots.{slotsIn, Slotted}
+use Rattle.slots.specs.HeadLaws.{used-lent, used-back}
+use borrow.Author.Needs.{needs}
+use Rattle.depend.proofs.note.Statement.{statement}
+use Rattle.depend.proofs.note.Tie as tie
+
+used-requires : tie.Need-used-requires
+used-requires c κs = search needs
+
+mul-end : tie.Need-mul-end
+mul-end c = search needs
+
+add-end : tie.Need-add-end
+add-end c = search needs
+
+sub-note-slots : tie.Need-sub-note-slots
+sub-note-slots c = search needs
+
+part-note-slots-start : tie.Need-part-note-slots-start
+part-note-slots-start c = search needs
+
+part-note-slots-end : tie.Need-part-note-slots-end
+part-note-slots-end c = search needs
+
+note-slots-requires : tie.Need-note-slots-requires
+note-slots-requires c κs =
+    let y = c .before .before in
+    let t = y .before .before .before in
+    let a = t .args in
+    let u = y .used .ensures .1 256 64 (t .pre .0) in
+    (subst Slotted (sym (used-lent 256 64 (a .m) (a .log .now) (t .pre .0) (y .used .result) u)) (used-slotted 256 64 (a .m) (a .log .now) (t .pre .0)), (t .pre .1 .0, t .pre .1 .1))
+
+same-length : tie.Need-same-length
+same-length c = search needs
+
+returns : tie.Need-returns
+returns c ops k =
+    let z = c .before .before in
+    let y = z .before .before .before in
+    let t = y .before .before .before in
+    let a = t .args in
+    let s = a .log .now in
+    let u = y .used .ensures .1 256 64 (t .pre .0) in
+    let l = readLog (a .m) s .slots in
+    let e : z .note-slots .last .0 ≡ encodeSlots (noted (a .program) ops l) =
+    z .note-slots .ensures ops k ∙ ap (λ (x : List Slot). encodeSlots (noted (a .program) ops x)) (ap slotsIn (used-lent 256 64 (a .m) s (t .pre .0) (y .used .result) u) ∙ used-slots 256 64 (a .m) s (t .pre .0)) in
+    let w = length-slots 256 64 (noted (a .program) ops l) (noted-good 256 64 (a .program) ops l (t .pre .1 .0) (used-good 256 64 (a .m) s (t .pre .0))) in
+    used-back 256 64 (a .m) s (t .pre .0) (y .used .result) u (z .note-slots .last .0) (noted (a .program) ops l) e (w ∙ ap (λ (i : ℕ). i * 1048) (noted-length (a .program) ops l))
+
+pub note-spec : {M : Type 1} → statement M
+note-spec =
+    tie.close
+    (tie.spec
+    used-requires
+    mul-end
+    add-end
+    sub-note-slots
+    part-note-slots-start
+    part-note-slots-end
+    note-slots-requires
+    same-length
+    returns)

@@ -1,0 +1,65 @@
+// Dependence (document 01, "Order and dependence"): one pass over the used slots, from the last to the first, with the set of the
+// objects reached so far.
+ghost use mathlib.Core.Path.{_≡_};
+ghost use mathlib.Core.List.{List};
+ghost use Prim.Native.Nat.{ℕ, _<_, _≤_};
+ghost use lib.ListN.{length};
+ghost use Rattle.log.specs.Stored.{encodeSlots, encodeLog, readLog};
+ghost use Rattle.log.specs.Depend.{noted};
+ghost use Rattle.log.specs.Change.{note};
+ghost use Rattle.log.specs.Code.Slots.{slotsIn, Slotted, Logged};
+ghost use Rattle.log.specs.Code.Flags.{Holds};
+ghost use Rattle.depend.specs.Code.Noted.{NotedAt};
+use operands::order::order_of;
+use operands::set::add;
+use operands::set::shares_any;
+use slots::HEAD;
+use slots::SLOT;
+use slots::head::used;
+use slots::programs::with_program;
+use slots::slot::dependents;
+use slots::slot::loss;
+use slots::slot::set_dependents;
+use slots::slot::waits;
+
+// One slot: if its operation waits and shares an operand with what is reached, the program depends on it, and its operands are
+// reached too.
+fn note_slot(s: &mut [u8], i: usize, program: usize, reached: &mut [u8; 256])
+    requires { ⌜ Slotted (now s) ⌝ }
+    requires { ⌜ (i < length (slotsIn (now s))) × (program < 32) ⌝ }
+    ensures { λ r. ⌜ NotedAt program i (now (s .entry)) (now (s .exit)) (now (reached .entry)) (now (reached .exit)) ⌝ }
+{
+    if waits(s, i) {
+        let o = order_of(loss(s, i));
+        if shares_any(reached, o) {
+            add(reached, o);
+            let d = dependents(s, i);
+            set_dependents(s, i, with_program(d, program));
+        }
+    }
+}
+
+// The used slots after an accepted call of a program whose operands are in the set.
+pub fn note_slots(s: &mut [u8], program: usize, reached: &mut [u8; 256])
+    requires { ⌜ Slotted (now s) ⌝ }
+    requires { ⌜ program < 32 ⌝ }
+    requires { ⌜ ((ops : List ℕ) × Holds (now reached) ops) ⌝ }
+    ensures { λ r. ⌜ ((ops : List ℕ) → Holds (now (reached .entry)) ops → now (s .exit) ≡ encodeSlots (noted program ops (slotsIn (now (s .entry))))) ⌝ }
+{
+    let mut i = s.len() / SLOT;
+    while 0 < i {
+        i -= 1;
+        note_slot(s, i, program, reached);
+    }
+}
+
+// The log after it.
+pub fn note(log: &mut [u8], m: usize, program: usize, reached: &mut [u8; 256])
+    requires { ⌜ Logged 256 64 m (now log) ⌝ }
+    requires { ⌜ program < 32 ⌝ }
+    requires { ⌜ ((ops : List ℕ) × Holds (now reached) ops) ⌝ }
+    ensures { λ r. ⌜ ((ops : List ℕ) → Holds (now (reached .entry)) ops → now (log .exit) ≡ encodeLog m (note program ops (readLog m (now (log .entry))))) ⌝ }
+{
+    let end = HEAD + used(log, m) * SLOT;
+    note_slots(&mut log[HEAD..end], program, reached);
+}

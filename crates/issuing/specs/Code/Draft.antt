@@ -1,0 +1,36 @@
+-- A record that stands in the first free slot of a log and is not issued yet: the slot's state is still "0 free".
+use Prim.Native.Nat.{ℕ, suc, _*_, _-_, _≤_, _<_}
+use mathlib.Core.Path.{_≡_}
+use mathlib.Core.List.{List, _++_}
+use mathlib.Core.Bool.{true}
+use lib.ListN.{length, replicate}
+use Rattle.buffer.specs.Numeral.{bytes}
+use Rattle.records.specs.Operation.{Record}
+use Rattle.records.specs.Fields.{encode, valid, fits}
+use Rattle.entry.specs.Stored.{padded}
+use Rattle.log.specs.Slot.{Log, wellFormed}
+use Rattle.log.specs.Stored.{slotBytes, encodeSlots}
+
+-- the first bytes of a log
+abbrev pub head : Log → List ℕ
+head l = bytes 4 (l .next) ++ bytes 4 (l .marks)
+
+-- a log's bytes with a record in its first free slot
+unfoldable pub drafted : ℕ → Log → Record → List ℕ
+drafted m l r =
+    head l
+    ++ (encodeSlots (l .slots)
+    ++ (replicate 8 0 ++ (padded 1040 (encode r) ++ replicate ((m - suc (length (l .slots))) * slotBytes) 0)))
+
+-- the next record of a well-formed log with a free slot stands in it
+pub record Draft (n b m : ℕ) (s : List ℕ) (l : Log) (r : Record) : Type 0 where
+  pub objects : n ≤ 256
+  pub blocks : b ≤ 64
+  pub most : m ≤ 1024
+  pub form : wellFormed n b m l ≡ true
+  pub room : length (l .slots) < m
+  pub numbers : l .next < 4294967295
+  pub sound : valid r ≡ true
+  pub fit : fits n b r ≡ true
+  pub first : r .sequence ≡ l .next
+  pub held : s ≡ drafted m l r

@@ -1,0 +1,48 @@
+-- What is asked of an operation that is issued, and what issuing it leaves of the log and of the view.
+use Prim.Native.Nat.{ℕ, _<_}
+use mathlib.Core.Path.{_≡_}
+use mathlib.Core.List.{List, _++_}
+use mathlib.Core.Bool.{true}
+use lib.ListN.{length}
+use Rattle.records.specs.Operation.{Record, operands}
+use Rattle.records.specs.Fields.{encode, valid, fits}
+use Rattle.search.specs.Volume.{Volume}
+use Rattle.search.specs.Stored.{encodeVolume, readVolume}
+use Rattle.applies.specs.Apply.{applies, apply}
+use Rattle.log.specs.Slot.{Log}
+use Rattle.log.specs.Stored.{encodeLog, readLog}
+use Rattle.log.specs.Change.{note, issue}
+use Rattle.log.specs.Code.Slots.{usedIn}
+use Rattle.issuing.specs.Code.Draft.{Draft}
+
+-- the record of an operation that may be issued: it is valid, fits, and applies to the view
+pub record Issuable (n b : ℕ) (v : Volume) (r : Record) : Type 0 where
+  pub sound : valid r ≡ true
+  pub fit : fits n b r ≡ true
+  pub ready : applies v (r .operation) ≡ true
+
+-- a slice begins with the bytes of a record
+pub record Begins (s : List ℕ) (r : Record) : Type 0 where
+  pub rest : List ℕ
+  pub bytes : s ≡ encode r ++ rest
+
+-- a log has a free slot and a number for one more operation
+abbrev pub Room : ℕ → List ℕ → Type 0
+Room m s = (usedIn m s < m) × (readLog m s .next < 4294967295)
+
+-- "Each accepted change, and forder, .. takes one sequence number and waits", and brings its dependence
+abbrev pub issuedLog : Record → Log → Log
+issuedLog r l = issue (r .program) (r .operation) (note (r .program) (operands (r .operation)) l)
+
+-- a record stands in the first free slot, and may be issued
+pub record Ready (n b m used p : ℕ) (s : List ℕ) (v : Volume) (l : Log) (r : Record) : Type 0 where
+  pub draft : Draft n b m s l r
+  pub place : used ≡ length (l .slots)
+  pub issuer : r .program ≡ p
+  pub able : Issuable n b v r
+
+-- the sequence number, the log and the view afterwards
+pub record Issued (n b m : ℕ) (number : ℕ) (log′ view′ : List ℕ) (v : Volume) (l : Log) (r : Record) : Type 0 where
+  pub gives : number ≡ l .next
+  pub log : log′ ≡ encodeLog m (issuedLog r l)
+  pub view : view′ ≡ encodeVolume b (apply v (r .operation))

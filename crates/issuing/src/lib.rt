@@ -1,0 +1,79 @@
+// Issuing an operation: "Each accepted change, and forder, alters the view, takes one sequence number and waits". Its record is
+// written straight into the first free slot of the log, and applied to the view from there.
+ghost use mathlib.Core.Path.{_≡_};
+ghost use Prim.Native.Nat.{_*_, _+_, _≤_, _<_};
+ghost use mathlib.Core.List.{_++_};
+ghost use lib.ListN.{length};
+ghost use Rattle.buffer.specs.Numeral.{bytes};
+ghost use Rattle.buffer.specs.Patch.{patch};
+ghost use Rattle.records.specs.Operation.{Record};
+ghost use Rattle.search.specs.Stored.{encodeVolume, readVolume};
+ghost use Rattle.search.specs.Code.Lent.{Formed};
+ghost use Rattle.applies.specs.Apply.{apply};
+ghost use Rattle.log.specs.Programs.{with};
+ghost use Rattle.log.specs.Slot.{Log};
+ghost use Rattle.issuing.specs.Code.Issued.{Issuable, Begins, Ready, Issued};
+use buffer::put::put_four;
+use depend::note_slots;
+use operands::order::order_of;
+use operands::set::add;
+use operands::set::none;
+use reader::Reading;
+use reader::read_record;
+use slots::HEAD;
+use slots::LOSS_AT;
+use slots::SLOT;
+use slots::WAITING;
+use slots::head::next_number;
+use slots::programs::with_program;
+use volume::apply::apply;
+
+pub mod shapes;
+
+// The view with the operation of a record applied.
+fn apply_record(view: &mut [u8], n: usize, b: usize, rec: &[u8])
+    requires { ⌜ Formed n b (now view) ⌝ }
+    requires { ⌜ ((r : Record) × Begins (now rec) r × Issuable n b (readVolume n b (now view)) r) ⌝ }
+    ensures { λ x. ⌜ ((r : Record) → Begins (now (rec .entry)) r → Issuable n b (readVolume n b (now (view .entry))) r → now (view .exit) ≡ encodeVolume b (apply (readVolume n b (now (view .entry))) (r .operation))) ⌝ }
+{
+    let Reading::Is(w) = read_record(rec, 0) else {
+        return;
+    };
+    apply(view, n, b, rec, w);
+}
+
+// The slot's state and dependents: its operation waits, and its issuer depends on it.
+fn open_slot(log: &mut [u8], at: usize, program: usize)
+    requires { ⌜ (at + 8 ≤ length (now log)) × (program < 32) ⌝ }
+    ensures { λ r. ⌜ now (log .exit) ≡ patch (now (log .entry)) at (bytes 4 1 ++ bytes 4 (with 0 program)) ⌝ }
+{
+    let next = put_four(log, at, WAITING);
+    put_four(log, next, with_program(0, program));
+}
+
+// Issues the operation whose record stands in the first free slot; its sequence number.
+pub fn issue(
+    log: &mut [u8],
+    view: &mut [u8],
+    n: usize,
+    b: usize,
+    m: usize,
+    used: usize,
+    program: usize,
+) -> usize
+    requires { ⌜ Formed n b (now view) ⌝ }
+    requires { ⌜ ((l : Log) × (r : Record) × Ready n b m used program (now log) (readVolume n b (now view)) l r) ⌝ }
+    ensures { λ x. ⌜ ((l : Log) (r : Record) → Ready n b m used program (now (log .entry)) (readVolume n b (now (view .entry))) l r → Issued n b m x (now (log .exit)) (now (view .exit)) (readVolume n b (now (view .entry))) l r) ⌝ }
+{
+    let next = next_number(log, m);
+    let at = HEAD + used * SLOT;
+    let start = at + LOSS_AT;
+    let end = at + SLOT;
+    apply_record(view, n, b, &log[start..end]);
+    let mut reached = none();
+    add(&mut reached, order_of(&log[start..end]));
+    note_slots(&mut log[HEAD..at], program, &mut reached);
+    open_slot(log, at, program);
+    put_four(log, 0, next + 1);
+    next
+}

@@ -1,0 +1,11 @@
+-- `operands::set::none` meets its contract: a set of zeros holds nothing.
+-- Assumes nothing.
+use Rattle.operands.specs.LoopLaws.{holds-none}
+use Rattle.operands.proofs.set.none.Statement.{statement}
+use Rattle.operands.proofs.set.none.Tie as tie
+
+returns : tie.Need-returns
+returns c = holds-none 256
+
+pub none-spec : {M : Type 1} → statement M
+none-spec = tie.close (tie.spec returns)

@@ -1,0 +1,4 @@
+pub mod Code
+pub mod LoopLaws
+pub mod OrderLaws
+pub mod ReadLaws

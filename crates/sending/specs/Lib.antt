@@ -1,0 +1,4 @@
+pub mod Code
+pub mod SendLaws
+pub mod TurnLaws
+pub mod PushLaws

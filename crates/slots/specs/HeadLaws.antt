@@ -1,0 +1,77 @@
+-- The head of a log in its bytes, and which slots are used. Assumes nothing.
+use Prim.Native.Nat.{ℕ, _+_, _*_, _-_, _%_, _≤_, _<_}
+use native.Mathlib.Nat.{add-zero}
+use native.Mathlib.Omega.{arith}
+use mathlib.Core.Path.{_≡_, refl, sym, ap, ap₂, _∙_, subst}
+use mathlib.Core.List.{List, _++_}
+use mathlib.Core.Bool.{true}
+use lib.ListN.{length, getD, take, drop, replicate, getD-replicate}
+use lib.Seq.{getD-take, getD-drop, drop-drop}
+use Rattle.buffer.specs.Numeral.{bytes}
+use Rattle.buffer.specs.Patch.{patch}
+use Rattle.log.specs.Slot.{State, waiting, lost, stateNumber, Slot, Log, withNext, withMarks, withSlots, goodSlots}
+use Rattle.log.specs.Stored.{encodeSlots, encodeLog, readLog}
+use Rattle.log.specs.StoredLaws.{slot-state}
+use Rattle.log.specs.GeometryLaws.{used-most, used-slots, used-slotted, free-part, slot-stored, slots-replaced, slots-fewer}
+use Rattle.log.specs.Code.Slots.{slotsIn, slotPart, slotAt, Slotted, Logged, usedIn, usedPart}
+
+-- Another next number, and other marks, are 4 bytes put at their place.
+pub next-put : (m v : ℕ) (l : Log) → patch (encodeLog m l) 0 (bytes 4 v) ≡ encodeLog m (withNext v l)
+unfolding encodeLog bytes patch
+next-put m v l = refl
+
+pub marks-put : (m v : ℕ) (l : Log) → patch (encodeLog m l) 4 (bytes 4 v) ≡ encodeLog m (withMarks v l)
+unfolding encodeLog bytes patch
+marks-put m v l = refl
+
+-- A used slot's state is not 0.
+state-some : (t : State) → stateNumber t % 256 ≡ 0 → ⊥
+state-some waiting e = omega arith
+state-some lost e = omega arith
+
+module _ (n b m : ℕ) (s : List ℕ) (u : Logged n b m s) where
+  -- The byte at the start of a used slot is its state.
+  used-state : (i : ℕ) → i < usedIn m s → getD s (8 + i * 1048) 0 ≡ stateNumber (slotAt (slotsIn (usedPart m s)) i .state) % 256
+  used-state i h =
+      let p = usedPart m s in
+      let k : i < length (slotsIn p) = rw (used-slots n b m s u) h in
+      let e₁ : getD s (8 + i * 1048) 0 ≡ getD p (i * 1048) 0 = sym (getD-take (usedIn m s * 1048) (drop 8 s) (i * 1048) 0 (omega arith) ∙ getD-drop 8 s (i * 1048) 0) in
+      let e₂ : getD (slotPart p i) 0 0 ≡ getD p (i * 1048) 0 = getD-take 1048 (drop (i * 1048) p) 0 0 (omega arith) ∙ getD-drop (i * 1048) p 0 0 ∙ ap (λ (j : ℕ). getD p j 0) (add-zero (i * 1048)) in
+      e₁ ∙ sym e₂ ∙ ap (λ (t : List ℕ). getD t 0 0) (slot-stored p (used-slotted n b m s u) i k) ∙ slot-state (slotAt (slotsIn p) i)
+
+  -- A slot whose first byte is 0 is not used.
+  pub free-unused : (i : ℕ) → getD s (8 + i * 1048) 0 ≡ 0 → i < usedIn m s → ⊥
+  free-unused i e h = state-some (slotAt (slotsIn (usedPart m s)) i .state) (sym (used-state i h) ∙ e)
+
+  -- Behind the used slots each slot's first byte is 0.
+  pub unused-free : (i : ℕ) → usedIn m s ≤ i → i < m → getD s (8 + i * 1048) 0 ≡ 0
+  unused-free i h l =
+      let k = usedIn m s in
+      let a : (8 + k * 1048) + (i - k) * 1048 ≡ 8 + i * 1048 = omega arith in
+      ap (λ (j : ℕ). getD s j 0) (sym a) ∙ sym (getD-drop (8 + k * 1048) s ((i - k) * 1048) 0)
+      ∙ ap (λ (t : List ℕ). getD t ((i - k) * 1048) 0) (free-part n b m s u)
+      ∙ getD-replicate ((m - k) * 1048) ((i - k) * 1048) 0 0 (omega arith)
+
+  -- The used slots as a part that is lent on, and the log with other slots that came back in it.
+  pub used-lent : (k : ℕ) → k ≡ usedIn m s → take (8 + k * 1048 - 8) (drop 8 s) ≡ usedPart m s
+  used-lent k e = let j : 8 + k * 1048 - 8 ≡ usedIn m s * 1048 = omega arith in ap (λ (i : ℕ). take i (drop 8 s)) j
+
+  pub used-back : (k : ℕ) → k ≡ usedIn m s → (x : List ℕ) (l : List Slot) → x ≡ encodeSlots l → length (encodeSlots l) ≡ usedIn m s * 1048
+      → take 8 s ++ (x ++ drop (8 + k * 1048 - 8) (drop 8 s)) ≡ encodeLog m (withSlots l (readLog m s))
+  used-back k e x l q w =
+      let j : 8 + (8 + k * 1048 - 8) ≡ 8 + usedIn m s * 1048 = omega arith in
+      ap₂ (λ (y z : List ℕ). take 8 s ++ (y ++ z)) q (drop-drop (8 + k * 1048 - 8) 8 s ∙ ap (λ (i : ℕ). drop i s) j) ∙ slots-replaced n b m s u l w
+
+  -- The log with fewer slots, that came back with zeros behind them.
+  pub used-fewer : (k : ℕ) → k ≡ usedIn m s → (x : List ℕ) (l : List Slot) (z : ℕ) → x ≡ encodeSlots l ++ replicate (z * 1048) 0 → goodSlots n b l ≡ true
+      → length l + z ≡ usedIn m s → take 8 s ++ (x ++ drop (8 + k * 1048 - 8) (drop 8 s)) ≡ encodeLog m (withSlots l (readLog m s))
+  used-fewer k e x l z q g w =
+      let j : 8 + (8 + k * 1048 - 8) ≡ 8 + usedIn m s * 1048 = omega arith in
+      ap₂ (λ (y t : List ℕ). take 8 s ++ (y ++ t)) q (drop-drop (8 + k * 1048 - 8) 8 s ∙ ap (λ (i : ℕ). drop i s) j) ∙ slots-fewer n b m s u l z g w
+
+  -- The lent part is bytes of used slots, those of the log.
+  pub lent-slotted : (k : ℕ) → k ≡ usedIn m s → Slotted (take (8 + k * 1048 - 8) (drop 8 s))
+  lent-slotted k e = subst Slotted (sym (used-lent k e)) (used-slotted n b m s u)
+
+  pub lent-slots : (k : ℕ) → k ≡ usedIn m s → slotsIn (take (8 + k * 1048 - 8) (drop 8 s)) ≡ readLog m s .slots
+  lent-slots k e = ap slotsIn (used-lent k e) ∙ used-slots n b m s u

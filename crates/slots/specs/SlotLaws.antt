@@ -1,0 +1,85 @@
+-- The used slots in their bytes: where each lies, what its bytes hold, and what a change of one leaves.
+-- Assumes nothing.
+use Prim.Native.Nat.{ℕ, zero, suc, _+_, _*_, _%_, _≤_, _<_}
+use native.Mathlib.Nat.{zero-mul, suc-mul, mul-le-mul-right}
+use native.Mathlib.Omega.{arith}
+use mathlib.Core.Path.{_≡_, refl, sym, ap, _∙_}
+use mathlib.Core.List.{List, [], _∷_, _++_}
+use mathlib.Core.Bool.{Bool, true, and-eq-true-iff}
+use lib.ListN.{length, getD, set, take, drop, replicate}
+use lib.Seq.{take-at, drop-append-add}
+use lib.Dec.{leb, eqb}
+use borrow.Author.Tests.{leb-true}
+use Rattle.buffer.specs.Numeral.{bytes, numeral}
+use Rattle.buffer.specs.NumeralLaws.{length-bytes, numeral-bytes}
+use Rattle.buffer.specs.Patch.{patch}
+use Rattle.records.specs.Operation.{Record}
+use Rattle.records.specs.Fields.{encode, headBytes, between, validHead, valid}
+use Rattle.records.specs.RecordLaws.{valid-inv}
+use Rattle.entry.specs.Stored.{padded}
+use Rattle.entry.specs.WriteLaws.{patch-behind, patch-first, patch-inside}
+use Rattle.log.specs.Slot.{State, waiting, lost, stateNumber, Slot, withState, withDependents, isWaiting, sequenceOf, goodSlots}
+use Rattle.log.specs.Stored.{slotBytes, encodeSlot, encodeSlots}
+use Rattle.log.specs.SlotLaws.{GoodSlot, slots-inv}
+use Rattle.log.specs.StoredLaws.{length-slot, slot-state}
+use Rattle.log.specs.GeometryLaws.{good-at, slotted-length, slot-stored, slot-set}
+use Rattle.log.specs.Code.Slots.{slotsIn, slotPart, slotAt, Slotted}
+
+-- Each slot lies wholly in the bytes of used slots.
+pub slot-room : (s : List ℕ) → Slotted s → (i : ℕ) → i < length (slotsIn s) → i * 1048 + 1048 ≤ length s
+slot-room s h i l = omega (arith, slotted-length s h)
+
+-- A slot of bytes of used slots has a valid record, and its bytes are so many.
+pub loss-valid : (s : List ℕ) → Slotted s → (i : ℕ) → i < length (slotsIn s) → valid (slotAt (slotsIn s) i .loss) ≡ true
+loss-valid s h i l = good-at 256 64 (slotsIn s) i (h .good) l .sound
+
+pub slot-long : (s : List ℕ) → Slotted s → (i : ℕ) → i < length (slotsIn s) → length (encodeSlot (slotAt (slotsIn s) i)) ≡ 1048
+slot-long s h i l = length-slot (slotAt (slotsIn s) i) (loss-valid s h i l)
+
+-- A valid record's sequence number and program are within their limits.
+pub head-limits : (r : Record) → valid r ≡ true → (r .sequence < 4294967295) × (r .program < 32)
+unfolding validHead
+head-limits r h =
+    let x = and-eq-true-iff (between 1 4294967294 (r .sequence)) (between 0 31 (r .program)) .0 (valid-inv r h .head) in
+    let y = and-eq-true-iff (leb 1 (r .sequence)) (leb (r .sequence) 4294967294) .0 (x .0) in
+    let z = and-eq-true-iff (leb 0 (r .program)) (leb (r .program) 31) .0 (x .1) in
+    (omega (arith, leb-true (r .sequence) 4294967294 (y .1)), omega (arith, leb-true (r .program) 31 (z .1)))
+
+-- The state, the loss record, its sequence number and its program in a slot's bytes.
+pub state-held : (s : Slot) → eqb (getD (encodeSlot s) 0 0) 1 ≡ isWaiting s
+state-held s = ap (λ (k : ℕ). eqb k 1) (slot-state s) ∙ go (s .state)
+  where
+    go : (t : State) → eqb (stateNumber t % 256) 1 ≡ eqb (stateNumber t) 1
+    go waiting = refl
+    go lost = refl
+
+pub loss-held : (s : Slot) → drop 8 (encodeSlot s) ≡ padded 1040 (encode (s .loss))
+unfolding encodeSlot bytes
+loss-held s = refl
+
+pub sequence-held : (s : Slot) → valid (s .loss) ≡ true → numeral (take 4 (drop 10 (encodeSlot s))) ≡ sequenceOf s
+unfolding encodeSlot bytes encode headBytes
+sequence-held s h = numeral-bytes 4 (s .loss .sequence) (omega (arith, head-limits (s .loss) h .0))
+
+pub program-held : (s : Slot) → valid (s .loss) ≡ true → getD (encodeSlot s) 14 0 ≡ s .loss .program
+unfolding encodeSlot bytes encode headBytes
+program-held s h = omega (arith, head-limits (s .loss) h .1)
+
+-- A put inside a slot is a change of that slot, if its bytes become those of another.
+pub slot-put : (s : List ℕ) → Slotted s → (i : ℕ) → i < length (slotsIn s) → (off : ℕ) (u : List ℕ) (t : Slot) → off + length u ≤ 1048
+    → valid (t .loss) ≡ true → patch (encodeSlot (slotAt (slotsIn s) i)) off u ≡ encodeSlot t
+    → patch s (i * 1048 + off) u ≡ encodeSlots (set (slotsIn s) i t)
+slot-put s h i l off u t k v e =
+    patch-inside s (i * 1048) 1048 off u k (slot-room s h i l)
+    ∙ ap (λ (x : List ℕ). patch s (i * 1048) (patch x off u)) (slot-stored s h i l)
+    ∙ ap (patch s (i * 1048)) e
+    ∙ slot-set s h i l t (length-slot t v)
+
+-- Other dependents, by a put of 4 bytes behind the state; and a lost one, by a put of all 8.
+pub dependents-put : (d : ℕ) (s : Slot) → patch (encodeSlot s) 4 (bytes 4 d) ≡ encodeSlot (withDependents d s)
+unfolding encodeSlot bytes patch
+dependents-put d s = refl
+
+pub lost-put : (s : Slot) → patch (encodeSlot s) 0 (bytes 4 2 ++ bytes 4 0) ≡ encodeSlot (withState lost (withDependents 0 s))
+unfolding encodeSlot bytes patch
+lost-put s = refl
