@@ -33,9 +33,10 @@ close-slots-requires c κs =
     let y = c .before in
     let t = y .before .before .before .before in
     let a = t .args in
-    let k = y .used .ensures .1 256 64 (t .pre .0) in
-    (lent-slotted 256 64 (a .m) (a .log .now) (t .pre .0) (y .used .result) k,
-      omega (arith, ap (λ (l : List Slot). length l) (lent-slots 256 64 (a .m) (a .log .now) (t .pre .0) (y .used .result) k), t .pre .1 .0))
+    let k = y .used .ensures .1 256 64 (t .pre .0) in (
+      lent-slotted 256 64 (a .m) (a .log .now) (t .pre .0) (y .used .result) k,
+      omega (arith, ap (λ (l : List Slot). length l) (lent-slots 256 64 (a .m) (a .log .now) (t .pre .0) (y .used .result) k), t .pre .1 .0),
+    )
 
 same-length : tie.Need-same-length
 same-length c = search needs

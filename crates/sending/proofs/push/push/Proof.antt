@@ -41,9 +41,13 @@ send-slot-requires c κs =
     let t = y .before .before .before .before in
     let a = t .args in
     let k = y .used .ensures .1 (a .n) (a .b) (t .pre .1 .0) in
-    let e = lent-slots (a .n) (a .b) (a .m) (a .log .now) (t .pre .1 .0) (y .used .result) k in
-    (t .pre .0, (lent-slotted (a .n) (a .b) (a .m) (a .log .now) (t .pre .1 .0) (y .used .result) k,
-      (ap (goodSlots (a .n) (a .b)) e ∙ used-good (a .n) (a .b) (a .m) (a .log .now) (t .pre .1 .0), omega (arith, ap (λ (l : List Slot). length l) e, t .pre .1 .1 .0))))
+    let e = lent-slots (a .n) (a .b) (a .m) (a .log .now) (t .pre .1 .0) (y .used .result) k in (
+      t .pre .0,
+      (
+        lent-slotted (a .n) (a .b) (a .m) (a .log .now) (t .pre .1 .0) (y .used .result) k,
+        (ap (goodSlots (a .n) (a .b)) e ∙ used-good (a .n) (a .b) (a .m) (a .log .now) (t .pre .1 .0), omega (arith, ap (λ (l : List Slot). length l) e, t .pre .1 .1 .0)),
+      ),
+    )
 
 sub-close-slot : tie.Need-sub-close-slot
 sub-close-slot c = search needs

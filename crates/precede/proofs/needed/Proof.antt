@@ -1,0 +1,35 @@
+-- `precede::needed` meets its contract: what a call on the object reaches is what it needs.
+-- Assumes nothing.
+use borrow.Author.Needs.{needs}
+use native.Mathlib.Omega.{arith}
+use Prim.Native.Nat.{_/_}
+use lib.ListN.{length}
+use Rattle.log.specs.GeometryLaws.{slotted-length}
+use Rattle.log.specs.Code.Slots.{slotsIn}
+use Rattle.precede.specs.GatherLaws.{gathered-needed}
+use Rattle.precede.proofs.needed.Statement.{statement}
+use Rattle.precede.proofs.needed.Tie as tie
+
+one-requires : tie.Need-one-requires
+one-requires c κs = search needs
+
+gather-requires : tie.Need-gather-requires
+gather-requires c κs =
+    let g = c .before .before .before .before .before in
+    let k = slotted-length (g .args .s .now) (g .pre .0) in
+    (g .pre .0, (omega arith, omega arith))
+
+same-length : tie.Need-same-length
+same-length c = search needs
+
+returns : tie.Need-returns
+returns c =
+    let r = c .before .before in
+    let g = r .before .before .before .before .before .before in
+    let a = g .args in
+    let k = slotted-length (a .s .now) (g .pre .0) in
+    let o = r .before .before .before in
+    gathered-needed (a .object) (slotsIn (a .s .now)) (g .pre .1 .1) (length (a .s .now) / 1048) (omega arith) (o .one .result) (a .found .now) _ _ (o .one .ensures) (r .gather .ensures)
+
+pub needed-spec : {M : Type 1} → statement M
+needed-spec = tie.close (tie.spec one-requires gather-requires same-length returns)
