@@ -4,6 +4,8 @@ use Prim.Native.Nat.{ℕ, _<_}
 use mathlib.Core.Path.{_≡_, refl, sym, ap, _∙_}
 use mathlib.Core.List.{List, [], _∷_, _++_}
 use mathlib.Core.Bool.{Bool, true, false, and-eq-true-iff, false≢true}
+use lib.ListN.{length, take}
+use lib.Seq.{take-at}
 use lib.Dec.{ltb}
 use native.Mathlib.Omega.{arith}
 use borrow.Author.Tests.{ltb-true}
@@ -99,8 +101,19 @@ module _ (s : List ℕ) (r : Record) (rest : List ℕ) (sound : valid r ≡ true
   held-there q = let z : _≡_ {A = ℕ} 0 1 = cc held-read in omega arith
 
   module _ (w : Whole) (q : RecordIs w ≡ recordAt s 0) where
+    held-whole : w ≡ wholeOf r 0
+    held-whole = cc held-read
+
     pub held-found : recordFrom s w ≡ r
-    held-found = let z : w ≡ wholeOf r 0 = cc held-read in ap (recordFrom s) z ∙ record-back s 0 r rest sound e
+    held-found = ap (recordFrom s) held-whole ∙ record-back s 0 r rest sound e
+
+    -- The place after it is behind its bytes, and so these are the bytes before that place.
+    pub held-next : w .next ≡ length (encode r)
+    unfolding wholeOf
+    held-next = let z = ap (λ (x : Whole). x .next) held-whole in omega arith
+
+    pub held-bytes : take (w .next) s ≡ encode r
+    held-bytes = rw (held-next, e) (take-at (encode r) rest (length (encode r)) refl)
 
     pub held-fitting : (n b : ℕ) → fits n b r ≡ true → Fitting n b s w
     held-fitting n b fit = record { sound = ap valid held-found ∙ sound; fit = ap (fits n b) held-found ∙ fit }

@@ -3,19 +3,20 @@ use Prim.Native.Nat.{ℕ, zero, suc, _+_, _*_, _-_, _/_, _≤_, _<_}
 use native.Mathlib.Omega.{arith}
 use mathlib.Core.Path.{_≡_, refl, sym, ap, ap₂, _∙_}
 use mathlib.Core.List.{List, [], _∷_, _++_, map}
-use mathlib.Core.Bool.{Bool, true, false, cond}
+use mathlib.Core.Bool.{true, false, cond}
 use lib.ListN.{length, set, take, drop, length-map}
-use lib.Seq.{drop-cons, drop-drop, drop-length, set-getD}
+use lib.Seq.{drop-cons, drop-length, set-getD}
 use Rattle.log.specs.Programs.{union}
 use Rattle.log.specs.Slot.{lost, Slot, withState, withDependents, Log, withMarks, withSlots, isWaiting, goodSlots, wellFormed}
 use Rattle.log.specs.Stored.{encodeSlots, encodeLog, readLog}
 use Rattle.log.specs.Change.{discarded, dependentsOf, discard}
-use Rattle.log.specs.SlotLaws.{GoodSlot, slots-inv, slots-of, formed-inv, formed-of}
+use Rattle.log.specs.SlotLaws.{slots-inv, slots-of, formed-inv, formed-of}
 use Rattle.log.specs.StoredLaws.{length-slots, read-log}
 use Rattle.log.specs.ProgramLaws.{union-below}
-use Rattle.log.specs.ChangeLaws.{discard-good}
-use Rattle.log.specs.GeometryLaws.{slotted-of, slots-in, used-slots, used-slotted, used-good, slots-replaced, logged-whole, slotted-length}
+use Rattle.log.specs.ChangeLaws.{all-discarded-good, discard-good}
+use Rattle.log.specs.GeometryLaws.{slotted-of, slots-in, used-good, logged-whole, slotted-length}
 use Rattle.log.specs.Code.Slots.{slotsIn, noSlot, slotAt, Slotted, Logged, usedIn}
+use Rattle.slots.specs.HeadLaws.{lentPart, lent-slots, used-back}
 use Rattle.discard.specs.FoundLaws.{slots-count}
 
 -- slots of which those from a position on are discarded
@@ -45,18 +46,9 @@ partly-length zero l = length-map l discarded
 partly-length (suc i) [] = refl
 partly-length (suc i) (s ∷ l) = ap suc (partly-length i l)
 
--- A good slot is good when it is discarded.
-discarded-good : (n b : ℕ) (s : Slot) → GoodSlot n b s → GoodSlot n b (discarded s)
-discarded-good n b s g = go (isWaiting s)
-  where
-    go : (t : Bool) → GoodSlot n b (cond t (withState lost (withDependents 0 s)) s)
-    go true = record { sound = g .sound; fit = g .fit; small = omega arith; none-if-lost = refl }
-    go false = g
-
--- So good slots are good on the way.
+-- Good slots are good on the way.
 partly-good : (n b i : ℕ) (l : List Slot) → goodSlots n b l ≡ true → goodSlots n b (partly i l) ≡ true
-partly-good n b zero [] h = h
-partly-good n b zero (s ∷ l) h = let g = slots-inv n b s l h in slots-of n b (discarded s) (map discarded l) (discarded-good n b s (g .0)) (partly-good n b zero l (g .1))
+partly-good n b zero l h = all-discarded-good n b l h
 partly-good n b (suc i) [] h = h
 partly-good n b (suc i) (s ∷ l) h = let g = slots-inv n b s l h in slots-of n b s (partly i l) (g .0) (partly-good n b i l (g .1))
 
@@ -162,30 +154,15 @@ all-lost-good n b m l w =
       order = g .order;
     })
 
--- the bytes behind a log's head that are lent on as so many slots
-abbrev pub lentPart : ℕ → List ℕ → List ℕ
-lentPart k s = take (8 + k * 1048 - 8) (drop 8 s)
-
 module _ (m : ℕ) (s : List ℕ) (u : Logged 256 64 m s) {k : ℕ} (e : k ≡ usedIn m s) where
-  -- So many bytes are lent on.
-  lent-long : 8 + k * 1048 - 8 ≡ usedIn m s * 1048
-  lent-long = omega arith
-
-  -- They are used slots, those of the log.
-  pub lent-slotted : Slotted (lentPart k s)
-  lent-slotted = rw lent-long (used-slotted 256 64 m s u)
-
-  lent-slots : slotsIn (lentPart k s) ≡ readLog m s .slots
-  lent-slots = ap (λ (z : ℕ). slotsIn (take z (drop 8 s))) lent-long ∙ used-slots 256 64 m s u
-
-  -- What comes back stands in their place.
-  pub lent-back : {x : List ℕ} → x ≡ encodeSlots (map discarded (slotsIn (lentPart k s)))
+  -- What comes back from the slots stands in the place of what was lent on.
+  pub cut-back : {x : List ℕ} → x ≡ encodeSlots (map discarded (slotsIn (lentPart k s)))
       → take 8 s ++ (x ++ drop (8 + k * 1048 - 8) (drop 8 s)) ≡ encodeLog m (allLost (readLog m s))
-  lent-back h =
+  cut-back {x} h =
       let l = readLog m s .slots in
       let w : length (encodeSlots (map discarded l)) ≡ usedIn m s * 1048 =
-      length-slots 256 64 (map discarded l) (partly-good 256 64 0 l (used-good 256 64 m s u)) ∙ ap (λ (z : ℕ). z * 1048) (length-map l discarded) in
-      rw (h, lent-slots, lent-long, drop-drop) (slots-replaced 256 64 m s u (map discarded l) w)
+      length-slots 256 64 (map discarded l) (all-discarded-good 256 64 l (used-good 256 64 m s u)) ∙ ap (λ (z : ℕ). z * 1048) (length-map l discarded) in
+      used-back 256 64 m s u k e x (map discarded l) (h ∙ ap (λ (z : List Slot). encodeSlots (map discarded z)) (lent-slots 256 64 m s u k e)) w
 
   -- The log without its new marks is well formed.
   lost-good : wellFormed 256 64 m (allLost (readLog m s)) ≡ true
@@ -202,4 +179,4 @@ module _ (m : ℕ) (s : List ℕ) (u : Logged 256 64 m s) {k : ℕ} (e : k ≡ u
     unfolding discard
     cut-whole p q r z =
         let b : readLog m t ≡ allLost (readLog m s) = ap (readLog m) h ∙ read-log 256 64 m (allLost (readLog m s)) lost-good in
-        z ∙ ap₂ (λ (j : ℕ) (l : Log). encodeLog m (withMarks j l)) (r ∙ ap₂ union (p ∙ ap (λ (l : Log). l .marks) b) (q ∙ ap dependentsOf lent-slots)) b
+        z ∙ ap₂ (λ (j : ℕ) (l : Log). encodeLog m (withMarks j l)) (r ∙ ap₂ union (p ∙ ap (λ (l : Log). l .marks) b) (q ∙ ap dependentsOf (lent-slots 256 64 m s u k e))) b

@@ -1,3 +1,4 @@
 pub mod Code
 pub mod FoundLaws
 pub mod DiscardLaws
+pub mod TakeLaws

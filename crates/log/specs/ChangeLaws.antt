@@ -357,7 +357,8 @@ discarded-good n b s g = go (isWaiting s)
     go true = record { sound = g .sound; fit = g .fit; small = omega arith; none-if-lost = refl }
     go false = g
 
-all-discarded-good : (n b : ℕ) (l : List Slot) → goodSlots n b l ≡ true → goodSlots n b (map discarded l) ≡ true
+-- good slots are good when they are discarded
+pub all-discarded-good : (n b : ℕ) (l : List Slot) → goodSlots n b l ≡ true → goodSlots n b (map discarded l) ≡ true
 all-discarded-good n b [] h = h
 all-discarded-good n b (s ∷ l) h = let k = slots-inv n b s l h in slots-of n b (discarded s) (map discarded l) (discarded-good n b s (k .0)) (all-discarded-good n b l (k .1))
 

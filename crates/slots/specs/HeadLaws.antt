@@ -2,9 +2,9 @@
 use Prim.Native.Nat.{ℕ, _+_, _*_, _-_, _%_, _≤_, _<_}
 use native.Mathlib.Nat.{add-zero}
 use native.Mathlib.Omega.{arith}
-use mathlib.Core.Path.{_≡_, refl, sym, ap, ap₂, _∙_, subst}
-use mathlib.Core.List.{List, _++_}
+use mathlib.Core.Path.{_≡_, refl, sym, ap, ap₂, _∙_}
 use mathlib.Core.Bool.{true}
+use mathlib.Core.List.{List, _++_}
 use lib.ListN.{length, getD, take, drop, replicate, getD-replicate}
 use lib.Seq.{getD-take, getD-drop, drop-drop}
 use Rattle.buffer.specs.Numeral.{bytes}
@@ -12,7 +12,7 @@ use Rattle.buffer.specs.Patch.{patch}
 use Rattle.log.specs.Slot.{State, waiting, lost, stateNumber, Slot, Log, withNext, withMarks, withSlots, goodSlots}
 use Rattle.log.specs.Stored.{encodeSlots, encodeLog, readLog}
 use Rattle.log.specs.StoredLaws.{slot-state}
-use Rattle.log.specs.GeometryLaws.{used-most, used-slots, used-slotted, free-part, slot-stored, slots-replaced, slots-fewer}
+use Rattle.log.specs.GeometryLaws.{used-slots, used-slotted, free-part, slot-stored, slots-replaced, slots-fewer}
 use Rattle.log.specs.Code.Slots.{slotsIn, slotPart, slotAt, Slotted, Logged, usedIn, usedPart}
 
 -- Another next number, and other marks, are 4 bytes put at their place.
@@ -23,6 +23,10 @@ next-put m v l = refl
 pub marks-put : (m v : ℕ) (l : Log) → patch (encodeLog m l) 4 (bytes 4 v) ≡ encodeLog m (withMarks v l)
 unfolding encodeLog bytes patch
 marks-put m v l = refl
+
+-- the bytes behind a log's head that are lent on as so many slots
+abbrev pub lentPart : ℕ → List ℕ → List ℕ
+lentPart k s = take (8 + k * 1048 - 8) (drop 8 s)
 
 -- A used slot's state is not 0.
 state-some : (t : State) → stateNumber t % 256 ≡ 0 → ⊥
@@ -52,26 +56,28 @@ module _ (n b m : ℕ) (s : List ℕ) (u : Logged n b m s) where
       ∙ ap (λ (t : List ℕ). getD t ((i - k) * 1048) 0) (free-part n b m s u)
       ∙ getD-replicate ((m - k) * 1048) ((i - k) * 1048) 0 0 (omega arith)
 
-  -- The used slots as a part that is lent on, and the log with other slots that came back in it.
-  pub used-lent : (k : ℕ) → k ≡ usedIn m s → take (8 + k * 1048 - 8) (drop 8 s) ≡ usedPart m s
+  -- What is lent on as the used slots is bytes of used slots, those of the log.
+  pub used-lent : (k : ℕ) → k ≡ usedIn m s → lentPart k s ≡ usedPart m s
   used-lent k e = let j : 8 + k * 1048 - 8 ≡ usedIn m s * 1048 = omega arith in ap (λ (i : ℕ). take i (drop 8 s)) j
 
+  pub lent-slotted : (k : ℕ) → k ≡ usedIn m s → Slotted (lentPart k s)
+  lent-slotted k e = rw (used-lent k e) (used-slotted n b m s u)
+
+  pub lent-slots : (k : ℕ) → k ≡ usedIn m s → slotsIn (lentPart k s) ≡ readLog m s .slots
+  lent-slots k e = ap slotsIn (used-lent k e) ∙ used-slots n b m s u
+
+  -- Behind it stands what stands behind the used slots.
+  lent-behind : (k : ℕ) → k ≡ usedIn m s → drop (8 + k * 1048 - 8) (drop 8 s) ≡ drop (8 + usedIn m s * 1048) s
+  lent-behind k e =
+      let j : 8 + (8 + k * 1048 - 8) ≡ 8 + usedIn m s * 1048 = omega arith in
+      drop-drop (8 + k * 1048 - 8) 8 s ∙ ap (λ (i : ℕ). drop i s) j
+
+  -- The log with other slots that came back in it, as many; and with fewer, and zeros behind them.
   pub used-back : (k : ℕ) → k ≡ usedIn m s → (x : List ℕ) (l : List Slot) → x ≡ encodeSlots l → length (encodeSlots l) ≡ usedIn m s * 1048
       → take 8 s ++ (x ++ drop (8 + k * 1048 - 8) (drop 8 s)) ≡ encodeLog m (withSlots l (readLog m s))
-  used-back k e x l q w =
-      let j : 8 + (8 + k * 1048 - 8) ≡ 8 + usedIn m s * 1048 = omega arith in
-      ap₂ (λ (y z : List ℕ). take 8 s ++ (y ++ z)) q (drop-drop (8 + k * 1048 - 8) 8 s ∙ ap (λ (i : ℕ). drop i s) j) ∙ slots-replaced n b m s u l w
+  used-back k e x l q w = ap₂ (λ (y z : List ℕ). take 8 s ++ (y ++ z)) q (lent-behind k e) ∙ slots-replaced n b m s u l w
 
-  -- The log with fewer slots, that came back with zeros behind them.
-  pub used-fewer : (k : ℕ) → k ≡ usedIn m s → (x : List ℕ) (l : List Slot) (z : ℕ) → x ≡ encodeSlots l ++ replicate (z * 1048) 0 → goodSlots n b l ≡ true
-      → length l + z ≡ usedIn m s → take 8 s ++ (x ++ drop (8 + k * 1048 - 8) (drop 8 s)) ≡ encodeLog m (withSlots l (readLog m s))
-  used-fewer k e x l z q g w =
-      let j : 8 + (8 + k * 1048 - 8) ≡ 8 + usedIn m s * 1048 = omega arith in
-      ap₂ (λ (y t : List ℕ). take 8 s ++ (y ++ t)) q (drop-drop (8 + k * 1048 - 8) 8 s ∙ ap (λ (i : ℕ). drop i s) j) ∙ slots-fewer n b m s u l z g w
-
-  -- The lent part is bytes of used slots, those of the log.
-  pub lent-slotted : (k : ℕ) → k ≡ usedIn m s → Slotted (take (8 + k * 1048 - 8) (drop 8 s))
-  lent-slotted k e = subst Slotted (sym (used-lent k e)) (used-slotted n b m s u)
-
-  pub lent-slots : (k : ℕ) → k ≡ usedIn m s → slotsIn (take (8 + k * 1048 - 8) (drop 8 s)) ≡ readLog m s .slots
-  lent-slots k e = ap slotsIn (used-lent k e) ∙ used-slots n b m s u
+  pub used-fewer : (k : ℕ) → k ≡ usedIn m s → (x : List ℕ) (l : List Slot) (f : ℕ) → x ≡ encodeSlots l ++ replicate (f * 1048) 0
+      → goodSlots n b l ≡ true → length l + f ≡ usedIn m s
+      → take 8 s ++ (x ++ drop (8 + k * 1048 - 8) (drop 8 s)) ≡ encodeLog m (withSlots l (readLog m s))
+  used-fewer k e x l f q g w = ap₂ (λ (y z : List ℕ). take 8 s ++ (y ++ z)) q (lent-behind k e) ∙ slots-fewer n b m s u l f g w

@@ -1,6 +1,7 @@
 -- `discard::discard::discard` meets its contract: the used slots are lent on as a part, and then the marks are written.
 -- Assumes nothing.
-use Rattle.discard.specs.DiscardLaws.{lent-slotted, lent-back, lost-logged, cut-whole}
+use Rattle.slots.specs.HeadLaws.{lent-slotted}
+use Rattle.discard.specs.DiscardLaws.{cut-back, lost-logged, cut-whole}
 use borrow.Author.Needs.{needs}
 use Rattle.discard.proofs.discard.discard.Statement.{statement}
 use Rattle.discard.proofs.discard.discard.Tie as tie
@@ -28,7 +29,7 @@ discard-slots-requires c κs =
     let y = c .before in
     let t = y .before .before .before in
     let a = t .args in
-    lent-slotted (a .m) (a .log .now) (t .pre) (y .used .ensures .1 256 64 (t .pre))
+    lent-slotted 256 64 (a .m) (a .log .now) (t .pre) (y .used .result) (y .used .ensures .1 256 64 (t .pre))
 
 marks-requires : tie.Need-marks-requires
 marks-requires c κs = search needs
@@ -52,7 +53,7 @@ returns c =
     let t = v .before .before .before in
     let a = t .args in
     let e = v .used .ensures .1 256 64 (t .pre) in
-    let h = lent-back (a .m) (a .log .now) (t .pre) e (w .discard-slots .ensures .0) in
+    let h = cut-back (a .m) (a .log .now) (t .pre) e (w .discard-slots .ensures .0) in
     cut-whole (a .m) (a .log .now) (t .pre) e h (x .marks .ensures .0) (w .discard-slots .ensures .1) (y .union-of .ensures)
     (z .set-marks .ensures 256 64 (lost-logged (a .m) (a .log .now) (t .pre) e h))
 

@@ -1,0 +1,44 @@
+// "Take writes the earliest loss of a program and frees its slot", for the position where the loss was found.
+ghost use mathlib.Core.Path.{_≡_};
+ghost use Prim.Native.Nat.{_≤_, _<_};
+ghost use lib.ListN.{length};
+ghost use Rattle.log.specs.Stored.{encodeLog, readLog};
+ghost use Rattle.log.specs.Code.Slots.{slotsIn, slotAt, Slotted, Logged, usedIn};
+ghost use Rattle.discard.specs.Code.Taken.{Written, freedAt};
+use buffer::put::put_bytes;
+use closing::close_slot;
+use reader::Reading;
+use reader::read_record;
+use slots::HEAD;
+use slots::SLOT;
+use slots::head::used;
+use slots::slot::loss;
+
+// Writes the loss record of a slot at the start of a buffer, without the zeros that follow it in the slot; its length.
+fn put_loss(s: &[u8], i: usize, own: &mut [u8]) -> usize
+    requires { ⌜ Slotted (now s) ⌝ }
+    requires { ⌜ i < length (slotsIn (now s)) ⌝ }
+    requires { ⌜ 1040 ≤ length (now own) ⌝ }
+    ensures { λ x. ⌜ Written (slotAt (slotsIn (now (s .entry))) i .loss) (now (own .entry)) (now (own .exit)) x ⌝ }
+{
+    let rec = loss(s, i);
+    let Reading::Is(w) = read_record(rec, 0) else {
+        return 0;
+    };
+    let len = w.next;
+    put_bytes(own, 0, &rec[..len])
+}
+
+// Writes the loss record of a used slot of a log at the start of a buffer, and frees the slot; the record's length.
+pub fn take(log: &mut [u8], m: usize, i: usize, own: &mut [u8]) -> usize
+    requires { ⌜ Logged 256 64 m (now log) ⌝ }
+    requires { ⌜ i < usedIn m (now log) ⌝ }
+    requires { ⌜ 1040 ≤ length (now own) ⌝ }
+    ensures { λ x. ⌜ Written (slotAt (readLog m (now (log .entry)) .slots) i .loss) (now (own .entry)) (now (own .exit)) x ⌝ }
+    ensures { λ x. ⌜ now (log .exit) ≡ encodeLog m (freedAt i (readLog m (now (log .entry)))) ⌝ }
+{
+    let end = HEAD + used(log, m) * SLOT;
+    let len = put_loss(&log[HEAD..end], i, own);
+    close_slot(&mut log[HEAD..end], i);
+    len
+}
