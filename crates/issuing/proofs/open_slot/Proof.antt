@@ -6,7 +6,7 @@ use mathlib.Core.List.{_++_}
 use Rattle.buffer.specs.Numeral.{bytes}
 use Rattle.buffer.specs.NumeralLaws.{length-bytes}
 use Rattle.buffer.specs.Patch.{patch}
-use Rattle.buffer.specs.PatchLaws.{put-then}
+use Rattle.buffer.specs.PatchLaws.{put-then, put-end}
 use borrow.Author.Needs.{needs}
 use Rattle.issuing.proofs.open_slot.Statement.{statement}
 use Rattle.issuing.proofs.open_slot.Tie as tie
@@ -20,7 +20,7 @@ with-program-requires c κs = search needs
 put-four-requires-2 : tie.Need-put-four-requires-2
 put-four-requires-2 c κs =
     let z = c .before .before .before .before in
-    omega (arith, z .put-four .ensures .ends, length-bytes 4 1)
+    omega (arith, put-end 4 (z .put-four .ensures) (length-bytes 4 _))
 
 same-length : tie.Need-same-length
 same-length c = search needs
