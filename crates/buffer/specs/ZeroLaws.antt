@@ -32,6 +32,12 @@ unfolding zeros
 replicate-zeros zero = refl
 replicate-zeros (suc k) = replicate-zeros k
 
+-- So many zeros have 0 in every place.
+pub zeros-at : (k j : ℕ) → getD {A = ℕ} (replicate k 0) j 0 ≡ 0
+zeros-at zero j = refl
+zeros-at (suc k) zero = refl
+zeros-at (suc k) (suc j) = zeros-at k j
+
 -- Two numbers have no bit set between them exactly where both are zero.
 pub or-zero : (a b : ℕ) → eqb (bitOr a b) 0 ≡ eqb a 0 && eqb b 0
 or-zero zero b = refl

@@ -2,22 +2,22 @@
 use Prim.Native.Nat.{ℕ, _+_, _-_, _≤_, _<_}
 use native.Mathlib.Numerals.{add-one}
 use native.Mathlib.Omega.{arith}
-use mathlib.Core.Path.{_≡_, refl, sym, ap, ap₂, _∙_, subst}
+use mathlib.Core.Path.{_≡_, sym, ap, ap₂, _∙_, subst}
 use mathlib.Core.List.{List, [], _∷_, _++_, append-assoc, append-nil}
-use mathlib.Core.Bool.{Bool, true, false, _&&_, cond}
-use lib.ListN.{length, getD, set, take, drop, length-append, take-append-drop}
+use mathlib.Core.Bool.{Bool, true, false}
+use lib.ListN.{length, set, take, drop, length-append, take-append-drop}
 use lib.Seq.{take-length, drop-length, take-suc, drop-cons, length-take-le, set-at, set-getD, getD-at}
-use Rattle.records.specs.Operation.{operands}
 use Rattle.log.specs.Programs.{with}
 use Rattle.log.specs.Slot.{Slot, withDependents, goodSlots}
 use Rattle.log.specs.Stored.{encodeSlots}
 use Rattle.log.specs.Depend.{reach, noted}
 use Rattle.log.specs.ChangeLaws.{noted-good, noted-length}
 use Rattle.log.specs.GeometryLaws.{good-take, good-drop, good-both, slots-in, slotted-of}
-use Rattle.log.specs.NeededLaws.{reaches, reach-at}
+use Rattle.log.specs.NeededLaws.{reach-at}
 use Rattle.log.specs.Code.Slots.{slotsIn, slotAt, noSlot, Slotted}
 use Rattle.log.specs.Code.Flags.{Holds}
-use Rattle.depend.specs.Code.Noted.{isReached, notedSlot, reachedBy, NotedAt}
+use Rattle.depend.specs.Code.Reached.{reachedBy, Tried}
+use Rattle.depend.specs.Code.Noted.{notedSlot, NotedAt}
 
 -- the slots with those from a position on noted
 abbrev pub partly : ℕ → List ℕ → List Slot → ℕ → List Slot
@@ -65,15 +65,14 @@ module _ (p : ℕ) (ops : List ℕ) (l : List Slot) where
     partly-slotted i h k = slotted-of 256 64 (partly p ops l i) (omega arith) (omega arith) (rw (partly-length i h) k) (partly-good i)
 
 -- A slot that is reached is noted, and its operands are reached; one that is not stays as it is.
-module _ (p i : ℕ) (s s' set₀ set₁ : List ℕ) where
-  pub noted-slot-of : ((ops : List ℕ) → Holds set₀ ops → isReached ops (slotAt (slotsIn s) i) ≡ true)
-      → s' ≡ encodeSlots (set (slotsIn s) i (withDependents (with (slotAt (slotsIn s) i .dependents) p) (slotAt (slotsIn s) i)))
-      → ((ops : List ℕ) → Holds set₀ ops → Holds set₁ (operands (slotAt (slotsIn s) i .loss .operation) ++ ops)) → NotedAt p i s s' set₀ set₁
-  noted-slot-of hit e h = record { slot = λ ops k. rw (hit ops k) e; objects = λ ops k. rw (hit ops k) (h ops k) }
+module _ (p i : ℕ) (s set₀ set₁ : List ℕ) (r : Bool) (tried : Tried (slotAt (slotsIn s) i) set₀ set₁ r) where
+  pub noted-slot-of : r ≡ true → (s' : List ℕ) → s' ≡ encodeSlots (set (slotsIn s) i (withDependents (with (slotAt (slotsIn s) i .dependents) p) (slotAt (slotsIn s) i)))
+      → NotedAt p i s s' set₀ set₁
+  noted-slot-of hit s' e = record { slot = λ ops k. rw (← tried .found ops k, hit) e; objects = tried .objects }
 
-pub passed-slot-of : (p i : ℕ) (s set : List ℕ) → Slotted s → ((ops : List ℕ) → Holds set ops → isReached ops (slotAt (slotsIn s) i) ≡ false) → NotedAt p i s s set set
-passed-slot-of p i s set h miss =
-    record { slot = λ ops k. rw (miss ops k) (sym (h .stored) ∙ ap encodeSlots (sym (set-getD (slotsIn s) i noSlot))); objects = λ ops k. rw (miss ops k) k }
+  pub passed-slot-of : r ≡ false → Slotted s → NotedAt p i s s set₀ set₁
+  passed-slot-of miss h =
+      record { slot = λ ops k. rw (← tried .found ops k, miss) (sym (h .stored) ∙ ap encodeSlots (sym (set-getD (slotsIn s) i noSlot))); objects = tried .objects }
 
 -- A turn of the pass: one more slot is noted, and what it reaches is reached.
 module _ (p : ℕ) (ops : List ℕ) (l : List Slot) (small : p < 32) (good : goodSlots 256 64 l ≡ true) where

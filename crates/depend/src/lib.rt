@@ -1,8 +1,10 @@
 // Dependence (document 01, "Order and dependence"): one pass over the used slots, from the last to the first, with the set of the
 // objects reached so far.
+pub mod reach;
+
 ghost use mathlib.Core.Path.{_≡_};
 ghost use mathlib.Core.List.{List};
-ghost use Prim.Native.Nat.{ℕ, _<_, _≤_};
+ghost use Prim.Native.Nat.{ℕ, _<_};
 ghost use lib.ListN.{length};
 ghost use Rattle.log.specs.Stored.{encodeSlots, encodeLog, readLog};
 ghost use Rattle.log.specs.Depend.{noted};
@@ -10,32 +12,23 @@ ghost use Rattle.log.specs.Change.{note};
 ghost use Rattle.log.specs.Code.Slots.{slotsIn, Slotted, Logged};
 ghost use Rattle.log.specs.Code.Flags.{Holds};
 ghost use Rattle.depend.specs.Code.Noted.{NotedAt};
-use operands::order::order_of;
-use operands::set::add;
-use operands::set::shares_any;
+use crate::reach::reach_slot;
 use slots::HEAD;
 use slots::SLOT;
 use slots::head::used;
 use slots::programs::with_program;
 use slots::slot::dependents;
-use slots::slot::loss;
 use slots::slot::set_dependents;
-use slots::slot::waits;
 
-// One slot: if its operation waits and shares an operand with what is reached, the program depends on it, and its operands are
-// reached too.
+// One slot: if it is reached, the program depends on its operation, and its operands are reached too.
 fn note_slot(s: &mut [u8], i: usize, program: usize, reached: &mut [u8; 256])
     requires { ⌜ Slotted (now s) ⌝ }
     requires { ⌜ (i < length (slotsIn (now s))) × (program < 32) ⌝ }
     ensures { λ r. ⌜ NotedAt program i (now (s .entry)) (now (s .exit)) (now (reached .entry)) (now (reached .exit)) ⌝ }
 {
-    if waits(s, i) {
-        let o = order_of(loss(s, i));
-        if shares_any(reached, o) {
-            add(reached, o);
-            let d = dependents(s, i);
-            set_dependents(s, i, with_program(d, program));
-        }
+    if reach_slot(s, i, reached) {
+        let d = dependents(s, i);
+        set_dependents(s, i, with_program(d, program));
     }
 }
 

@@ -70,7 +70,7 @@ no-contents b =
     ap (λ (n : ℕ). replicate 4 0 ++ replicate n 0) k ∙ replicate-append-replicate 4 (1024 * b) 0
 
 -- The bytes at a place are those of the number that they store.
-number-back : (w at : ℕ) (s : List ℕ) → at + w ≤ length s → Bytes s → bytes w (numeral (take w (drop at s))) ≡ take w (drop at s)
+pub number-back : (w at : ℕ) (s : List ℕ) → at + w ≤ length s → Bytes s → bytes w (numeral (take w (drop at s))) ≡ take w (drop at s)
 number-back w at s h byte =
     let r = take w (drop at s) in
     let l : length r ≡ w = length-take-le w (drop at s) (rw (length-drop at s) (omega arith)) in

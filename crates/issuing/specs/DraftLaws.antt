@@ -36,9 +36,6 @@ head-long : (l : Log) → length (head l) ≡ 8
 unfolding bytes
 head-long l = refl
 
-abbrev the-zero : ℕ
-the-zero = 0
-
 -- Zeros in two parts.
 zeros-parts : (j k : ℕ) → j ≤ k → _≡_ {A = List ℕ} (replicate k 0) (replicate j 0 ++ replicate (k - j) 0)
 zeros-parts j k h = let e : k ≡ j + (k - j) = omega arith in ap (λ (i : ℕ). replicate i 0) e ∙ sym (replicate-append-replicate j (k - j) 0)
@@ -177,7 +174,7 @@ module _ (n b m : ℕ) (s : List ℕ) (l : Log) (r : Record) (d : Draft n b m s 
 
 -- Zeros behind the first of them.
 zeros-behind : (j k : ℕ) → j ≤ k → _≡_ {A = List ℕ} (drop j (replicate k 0)) (replicate (k - j) 0)
-zeros-behind j k h = ap (drop j) (zeros-parts j k h) ∙ drop-at (replicate j 0) (replicate (k - j) 0) j (length-replicate j (the-zero))
+zeros-behind j k h = ap (drop j) (zeros-parts j k h) ∙ drop-at (replicate j 0) (replicate (k - j) 0) j (length-replicate {A = ℕ} j 0)
 
 -- A record written into the first free slot of a log is such a draft.
 module _ (n b m : ℕ) (s : List ℕ) (u : Logged n b m s) (r : Record) (sound : valid r ≡ true) (room : usedIn m s < m) where
@@ -191,7 +188,7 @@ module _ (n b m : ℕ) (s : List ℕ) (u : Logged n b m s) (r : Record) (sound :
   before-long : length before ≡ 16 + usedIn m s * 1048
   before-long =
       let w = length-slots n b (readLog m s .slots) (used-good n b m s u) in
-      length-append (head (readLog m s)) _ ∙ ap (λ (i : ℕ). length (head (readLog m s)) + i) (length-append (encodeSlots (readLog m s .slots)) (replicate 8 0) ∙ ap₂ (λ (i j : ℕ). i + j) w (length-replicate 8 the-zero))
+      length-append (head (readLog m s)) _ ∙ ap (λ (i : ℕ). length (head (readLog m s)) + i) (length-append (encodeSlots (readLog m s .slots)) (replicate 8 0) ∙ ap₂ (λ (i j : ℕ). i + j) w (length-replicate {A = ℕ} 8 0))
       ∙ ap (λ (i : ℕ). i + (usedIn m s * 1048 + 8)) (head-long (readLog m s)) ∙ omega arith
 
   parted : s ≡ before ++ (replicate 1040 0 ++ behind)
@@ -215,8 +212,8 @@ module _ (n b m : ℕ) (s : List ℕ) (u : Logged n b m s) (r : Record) (sound :
       let at = 16 + usedIn m s * 1048 in
       let t : take at s ≡ before = ap (take at) parted ∙ take-at before _ at before-long in
       let d : drop at s ≡ replicate 1040 0 ++ behind = ap (drop at) parted ∙ drop-at before _ at before-long in
-      let y : take 1040 (drop at s) ≡ replicate 1040 0 = ap (take 1040) d ∙ take-at (replicate 1040 0) behind 1040 (length-replicate 1040 the-zero) in
-      let g : drop 1040 (drop at s) ≡ behind = ap (drop 1040) d ∙ drop-at (replicate 1040 0) behind 1040 (length-replicate 1040 the-zero) in
+      let y : take 1040 (drop at s) ≡ replicate 1040 0 = ap (take 1040) d ∙ take-at (replicate 1040 0) behind 1040 (length-replicate {A = ℕ} 1040 0) in
+      let g : drop 1040 (drop at s) ≡ behind = ap (drop 1040) d ∙ drop-at (replicate 1040 0) behind 1040 (length-replicate {A = ℕ} 1040 0) in
       let v : x ≡ padded 1040 (encode r) = e ∙ ap (λ (q : List ℕ). encode r ++ drop (length (encode r)) q) y
       ∙ ap (λ (q : List ℕ). encode r ++ q) (zeros-behind (length (encode r)) 1040 (encode-length r sound .1)) in
       ap₂ (λ (p q : List ℕ). p ++ q) t (ap₂ (λ (p q : List ℕ). p ++ q) v g)

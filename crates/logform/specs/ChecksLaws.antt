@@ -13,6 +13,7 @@ use Rattle.buffer.specs.Numeral.{bytes, numeral, Bytes}
 use Rattle.buffer.specs.NumeralLaws.{bytes-part}
 use Rattle.buffer.specs.Code.Zero.{zeros}
 use Rattle.buffer.specs.ZeroLaws.{zeros-replicate, replicate-zeros}
+use Rattle.entry.specs.CheckLaws.{number-back}
 use Rattle.entry.specs.Stored.{padded}
 use Rattle.log.specs.Slot.{State, waiting, lost, stateNumber, Slot, Log, isWaiting, sequenceOf, goodSlots, wellFormed}
 use Rattle.log.specs.Stored.{slotBytes, logBytes, encodeSlot, encodeSlots, encodeLog, readLog, decodeLog, isLog}
@@ -21,7 +22,7 @@ use Rattle.log.specs.StoredLaws.{length-slot, read-log, decode-encode, encode-d
 use Rattle.logform.specs.declared.slot.SlotForm.{SlotForm}
 use Rattle.logform.specs.declared.slot.SlotForm.the-variants.{Is, Bad}
 use Rattle.logform.specs.Code.Checks.{slotForm, mayFollow, slotsFormed, logFormed}
-use Rattle.logform.specs.SlotLaws.{four-back, four-below, Used, form-used, slot-first, used-form}
+use Rattle.logform.specs.SlotLaws.{four-below, Used, form-used, slot-first, used-form}
 use Rattle.logform.specs.OrderLaws.{follows-inv, follows-of, behind, behind-inv, behind-of, behind-rising, rising-all}
 use Rattle.logform.specs.LoopLaws.{none-left, from-free, from-bad, from-used}
 
@@ -167,7 +168,7 @@ checks-sound n b m s size byte h =
     let join : List ℕ → List ℕ → List ℕ = λ x y. x ++ y in
     let rest : take 4 (drop 4 s) ++ drop 8 s ≡ drop 4 s = ap (join (take 4 (drop 4 s))) (sym (drop-drop 4 4 s)) ∙ take-append-drop 4 (drop 4 s) in
     let stored : encodeLog m l ≡ s =
-    ap₂ join (four-back s 0 (omega arith) byte) (ap₂ join (four-back s 4 (omega arith) byte) (r .stored) ∙ rest) ∙ take-append-drop 4 s in
+    ap₂ join (number-back 4 0 s (omega arith) byte) (ap₂ join (number-back 4 4 s (omega arith) byte) (r .stored) ∙ rest) ∙ take-append-drop 4 s in
     ap isLog (ap (decodeLog n b m) (sym stored) ∙ decode-encode n b m l form)
 
 -- The slots' bytes of a log that is stored.

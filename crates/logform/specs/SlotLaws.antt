@@ -25,6 +25,7 @@ use Rattle.reader.specs.CompleteLaws.{record-complete}
 use Rattle.reader.specs.ExactLaws.{decode-encode}
 use Rattle.reader.specs.FitLaws.{fits-read}
 use Rattle.entry.specs.Stored.{padded}
+use Rattle.entry.specs.CheckLaws.{number-back}
 use Rattle.log.specs.Slot.{State, waiting, lost, stateNumber, Slot, isWaiting, sequenceOf}
 use Rattle.log.specs.Stored.{slotBytes, encodeSlot}
 use Rattle.log.specs.SlotLaws.{GoodSlot}
@@ -66,11 +67,6 @@ module _ (s : List ℕ) (at : ℕ) (room : at + 4 ≤ length s) (byte : Bytes s)
   four-long : length (take 4 (drop at s)) ≡ 4
   four-long = length-take-le 4 (drop at s) (omega (arith, length-drop at s))
 
-  -- The 4 bytes at a place are those of the number that they store.
-  pub four-back : bytes 4 (numeral (take 4 (drop at s))) ≡ take 4 (drop at s)
-  four-back =
-      ap (λ (k : ℕ). bytes k (numeral (take 4 (drop at s)))) (sym four-long) ∙ bytes-numeral (take 4 (drop at s)) (bytes-part s 4 at byte)
-
   -- What 4 bytes store is below 2 ^ 32.
   pub four-below : numeral (take 4 (drop at s)) < 2 ^ 32
   four-below = rw four-long at (numeral-below (take 4 (drop at s)) (bytes-part s 4 at byte))
@@ -84,7 +80,7 @@ slot-back e size byte t state blank dep rest =
     let l₁ = length-drop 1 e in
     let n₃ : length (take 3 (drop 1 e)) ≡ 3 = length-take-le 3 (drop 1 e) (omega arith) in
     let p₃ : take 3 (drop 1 e) ≡ replicate 3 0 = zeros-replicate (take 3 (drop 1 e)) blank ∙ ap (λ (k : ℕ). replicate k 0) n₃ in
-    let p₄ : bytes 4 (t .dependents) ≡ take 4 (drop 4 e) = ap (bytes 4) dep ∙ four-back e 4 (omega arith) byte in
+    let p₄ : bytes 4 (t .dependents) ≡ take 4 (drop 4 e) = ap (bytes 4) dep ∙ number-back 4 4 e (omega arith) byte in
     let d₄ : take 4 (drop 4 e) ++ drop 8 e ≡ drop 4 e =
     ap (λ (r : List ℕ). take 4 (drop 4 e) ++ r) (sym (drop-drop 4 4 e)) ∙ take-append-drop 4 (drop 4 e) in
     let d₁ : take 3 (drop 1 e) ++ drop 4 e ≡ drop 1 e =

@@ -9,6 +9,7 @@ use lib.ListN.{length, getD, set, take, drop, replicate}
 use lib.Seq.{drop-cons, drop-length, getD-take, length-take-le, getD-set-same, getD-set-other, set-out, take-suc, take-suc-set}
 use lib.Dec.{eqb, ltb}
 use borrow.Author.Tests.{eqb-true, eqb-false, ltb-true, ltb-false}
+use Rattle.buffer.specs.ZeroLaws.{zeros-at}
 use Rattle.records.specs.Fields.{member}
 use Rattle.log.specs.Order.{shares}
 use Rattle.log.specs.Code.Flags.{Holds}
@@ -37,16 +38,10 @@ module _ (k l : List ℕ) (i : ℕ) where
   unfolding shares
   shares-end e = rw (e, drop-length k)
 
--- a list of zeros has 0 in every place
-pub all-zero : (k j : ℕ) → getD {A = ℕ} (replicate k 0) j 0 ≡ 0
-all-zero zero j = refl
-all-zero (suc k) zero = refl
-all-zero (suc k) (suc j) = all-zero k j
-
 -- a set of zeros holds nothing
 pub holds-none : (k : ℕ) → Holds (replicate k 0) []
 unfolding member
-holds-none k = record { same = λ x. rw (all-zero k x) }
+holds-none k = record { same = λ x. rw (zeros-at k x) }
 
 -- a byte that is set to 1 puts its object into the set
 pub holds-more : (s : List ℕ) (object : ℕ) (ops : List ℕ) → object < length s → Holds s ops → Holds (set s object 1) (object ∷ ops)

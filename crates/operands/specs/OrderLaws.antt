@@ -16,7 +16,7 @@ use Rattle.reader.specs.declared.Range.{Range}
 use Rattle.operands.specs.declared.order.Order.{Order}
 use Rattle.operands.specs.Code.Ordering.{Stretched, operandsIn, Ordering, Sized}
 use Rattle.operands.specs.Code.Reading.{plain, read, Limited}
-use Rattle.operands.specs.LoopLaws.{all-zero}
+use Rattle.buffer.specs.ZeroLaws.{zeros-at}
 
 -- one number more, below 256
 small-cons : (a : ℕ) (l : List ℕ) → a < 256 → ((i : ℕ) → getD l i 0 < 256) → (i : ℕ) → getD (a ∷ l) i 0 < 256
@@ -27,7 +27,7 @@ small-cons a l h t (suc i) = t i
 pub small-four : (a b c d : ℕ) → a < 256 → b < 256 → c < 256 → d < 256 → (i : ℕ) → getD (a ∷ b ∷ c ∷ d ∷ replicate 4 0) i 0 < 256
 small-four a b c d ha hb hc hd =
     small-cons a (b ∷ c ∷ d ∷ replicate 4 0) ha (small-cons b (c ∷ d ∷ replicate 4 0) hb (small-cons c (d ∷ replicate 4 0) hc
-    (small-cons d (replicate 4 0) hd (λ i. rw (all-zero 4 i) (omega arith)))))
+    (small-cons d (replicate 4 0) hd (λ i. rw (zeros-at 4 i) (omega arith)))))
 
 module _ (s : List ℕ) (o : Objects) (g : Range) (lim : Limited s o g) where
   plain-sized : (n : ℕ) → n ≤ 8 → Sized (plain n o)

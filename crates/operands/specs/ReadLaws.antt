@@ -37,7 +37,7 @@ use Rattle.reader.specs.Code.Reader.{place, onNumber, onPart, offsetAt, blockAt
 use Rattle.reader.specs.Code.Found.{recordFrom}
 use Rattle.reader.specs.Answer.{spanIf, wholeOf}
 use Rattle.reader.specs.ReaderLaws.{number-below}
-use Rattle.reader.specs.SoundRecordLaws.{objects-sound, range-sound}
+use Rattle.reader.specs.SoundRecordLaws.{number-went, part-went, no-range as refused-range, objects-sound, range-sound}
 use Rattle.reader.specs.CompleteLaws.{record-complete}
 use Rattle.reader.specs.ExactLaws.{record-back}
 use Rattle.operands.specs.declared.order.Order.{Order}
@@ -115,18 +115,6 @@ block-read : (s : List ℕ) (b : Bool) (p : Span) → ifStands b (between 1 1024
     → (length (stretch s p) ≡ p .len) × (p .len ≤ 1024)
 block-read s true p h e = (e, omega (arith, block-short (stretch s p) h))
 block-read s false p h e = let k = length-take (p .len) (drop (p .start) s) in (omega arith, omega arith)
-
--- the step from a field to the next was taken
-number-went : {A : Type 0} (f : Field) (refused a : A) (g : ℕ → Place → A) → (refused ≡ a → ⊥) → onNumber f refused g ≡ a → (v : ℕ) × (p : Place) × (f ≡ Number v p) × (g v p ≡ a)
-number-went (Number v p) refused a g other e = (v, p, refl, e)
-number-went NoField refused a g other e = absurd (other e)
-
-part-went : {A : Type 0} (f : Stretch) (refused a : A) (g : ℕ → ℕ → Place → A) → (refused ≡ a → ⊥) → onPart f refused g ≡ a → (b k : ℕ) × (p : Place) × (f ≡ Part b k p) × (g b k p ≡ a)
-part-went (Part b k p) refused a g other e = (b, k, p, refl, e)
-part-went NoPart refused a g other e = absurd (other e)
-
-refused-range : (g : Range) (p : Place) → NoRange ≡ RangeIs g p → ⊥
-refused-range g p e = let z : _≡_ {A = ℕ} 0 1 = cc in omega arith
 
 module _ (s : List ℕ) (byte : Bytes s) (m : ℕ) where
   -- an offset that was read has 4 bytes

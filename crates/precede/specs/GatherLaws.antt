@@ -1,103 +1,122 @@
--- What one candidate more brings to those found, and that those found at last are the operations that fsync needs.
+-- What one candidate, and one run of them, adds to those found, and that those found at last are the operations that fsync needs.
 use Prim.Native.Nat.{ℕ, suc, _+_, _≤_, _<_}
 use native.Mathlib.Omega.{arith}
-use mathlib.Core.Path.{_≡_, refl, sym, ap, _∙_}
-use mathlib.Core.List.{List, [], _∷_, _++_}
+use mathlib.Core.Path.{_≡_, refl, sym, ap, _∙_, subst}
+use mathlib.Core.List.{List, [], _∷_, _++_, append-assoc, append-nil}
 use mathlib.Core.Bool.{Bool, true, false, cond}
-use lib.ListN.{length, set, take, drop, length-append, length-set}
-use lib.Seq.{take-suc, take-length, drop-cons, drop-set-lt, getD-set-same, append-snoc, length-take-le}
+use lib.ListN.{length, getD, set, take, drop, length-append, take-append-drop}
+use lib.Seq.{take-suc, take-length, take-take, drop-at, set-at, length-take-le, slice, slice-empty, slice-cons}
 use lib.Dec.{eqb}
-use Rattle.records.specs.Operation.{operands}
-use Rattle.log.specs.Slot.{Slot, isWaiting, sequenceOf}
-use Rattle.log.specs.Order.{shares, needed}
+use Rattle.log.specs.Slot.{Slot, sequenceOf}
+use Rattle.log.specs.Order.{needed}
 use Rattle.log.specs.Depend.{reach}
 use Rattle.log.specs.Change.{waitingOf}
 use Rattle.log.specs.OrderLaws.{Rising}
-use Rattle.log.specs.NeededLaws.{needed-reached, reached-length, reached-wait}
+use Rattle.log.specs.NeededLaws.{needed-reached, reached-length, reached-wait, count-at}
 use Rattle.log.specs.Code.Slots.{slotAt, noSlot}
 use Rattle.log.specs.Code.Flags.{Holds, chosen, AllWait, reached}
-use Rattle.precede.specs.Code.Candidates.{isReached, reachedBy, Tried, Gathered}
+use Rattle.depend.specs.Code.Reached.{Tried}
+use Rattle.precede.specs.Code.Candidates.{RunGathered, Gathered}
 
--- a candidate that waits is reached if it has an operand among the objects
-pub tried-waiting : (t : Slot) (before after : List ℕ) (r : Bool) → isWaiting t ≡ true → ((ops : List ℕ) → Holds before ops → r ≡ shares (operands (t .loss .operation)) ops)
-    → ((ops : List ℕ) → Holds before ops → Holds after (cond r (operands (t .loss .operation) ++ ops) ops)) → Tried t before after r
-tried-waiting t before after r wait same held = record { found = λ ops h. same ops h ∙ rw wait; objects = λ ops h. rw (wait, ← same ops h) (held ops h) }
-
--- one that does not wait is not
-pub tried-lost : (t : Slot) (objects : List ℕ) → isWaiting t ≡ false → Tried t objects objects false
-tried-lost t objects wait = record { found = λ ops h. rw wait; objects = λ ops h. rw wait h }
-
--- the last of some slots is reached from the objects themselves, the others from those reached by it
-reach-last : (ops : List ℕ) (l : List Slot) (t : Slot) → reach ops (l ++ (t ∷ [])) ≡ reach (reachedBy ops t) l
+-- the later of some slots are tried first: the others are reached from what those reach
+reach-both : (ops : List ℕ) (u v : List Slot) → reach ops (u ++ v) ≡ reach (reach ops v) u
 unfolding reach
-reach-last ops [] t = refl
-reach-last ops (s ∷ l) t = rw (reach-last ops l t)
+reach-both ops [] v = refl
+reach-both ops (s ∷ u) v = rw (reach-both ops u v)
 
 -- and so are their flags
-reached-last : (ops : List ℕ) (l : List Slot) (t : Slot) → reached ops (l ++ (t ∷ [])) ≡ reached (reachedBy ops t) l ++ (cond (isReached ops t) 1 0 ∷ [])
-unfolding reached reach
-reached-last ops [] t = refl
-reached-last ops (s ∷ l) t = rw (reach-last ops l t, reached-last ops l t)
+reached-both : (ops : List ℕ) (u v : List Slot) → reached ops (u ++ v) ≡ reached (reach ops v) u ++ reached ops v
+unfolding reached
+reached-both ops [] v = refl
+reached-both ops (s ∷ u) v = rw (reach-both ops u v, reached-both ops u v)
 
--- one more flag chooses one record more, or none
-chosen-last : (fs : List ℕ) (l : List Slot) (b : Bool) (t : Slot) → length fs ≡ length l
-    → length (chosen (fs ++ (cond b 1 0 ∷ [])) (l ++ (t ∷ []))) ≡ cond b 1 0 + length (chosen fs l)
+-- the flags of some slots choose among these
+chosen-both : (fs gs : List ℕ) (u v : List Slot) → length fs ≡ length u → chosen (fs ++ gs) (u ++ v) ≡ chosen fs u ++ chosen gs v
 unfolding chosen
-chosen-last [] [] true t e = refl
-chosen-last [] [] false t e = refl
-chosen-last [] (s ∷ l) b t e = absurd (omega arith)
-chosen-last (f ∷ fs) [] b t e = absurd (omega arith)
-chosen-last (f ∷ fs) (s ∷ l) b t e = go (eqb f 1) (chosen-last fs l b t (omega arith))
+chosen-both [] gs [] v e = refl
+chosen-both [] gs (s ∷ u) v e = absurd (omega arith)
+chosen-both (f ∷ fs) gs [] v e = absurd (omega arith)
+chosen-both (f ∷ fs) gs (s ∷ u) v e = rw (chosen-both fs gs u v (omega arith)) (go (eqb f 1))
   where
-    go : (c : Bool) → length (chosen (fs ++ (cond b 1 0 ∷ [])) (l ++ (t ∷ []))) ≡ cond b 1 0 + length (chosen fs l)
-        → length (cond c (s .loss ∷ chosen (fs ++ (cond b 1 0 ∷ [])) (l ++ (t ∷ []))) (chosen (fs ++ (cond b 1 0 ∷ [])) (l ++ (t ∷ []))))
-        ≡ cond b 1 0 + length (cond c (s .loss ∷ chosen fs l) (chosen fs l))
-    go true k = omega arith
-    go false k = k
+    go : (c : Bool) → cond c (s .loss ∷ chosen fs u ++ chosen gs v) (chosen fs u ++ chosen gs v) ≡ cond c (s .loss ∷ chosen fs u) (chosen fs u) ++ chosen gs v
+    go true = refl
+    go false = refl
 
--- a flag that is set stands before those behind it
-flag-set : (s : List ℕ) (j v : ℕ) → j < length s → drop j (set s j v) ≡ v ∷ drop (suc j) s
-flag-set s j v h = rw (drop-cons (set s j v) j 0 (rw length-set h), getD-set-same s j v 0 h, drop-set-lt (suc j) s j v (omega arith))
+-- in an empty run none is found
+pub run-none : (l : List Slot) (to : ℕ) (objects flags : List ℕ) → RunGathered to (slice to to l) objects objects flags flags 0
+unfolding reached chosen reach
+run-none l to objects flags = rw (slice-empty to l) (record {
+  most = omega arith;
+  flags = λ ops held. let z : to + 0 ≡ to = omega arith in rw z (sym (take-append-drop to flags));
+  count = λ ops held. refl;
+  objects = λ ops held. held;
+})
+
+-- one candidate more in front of a run, which is tried after it
+module _ (found : Bool) (v c n : ℕ) (flag : v ≡ cond found 1 0) (sum : n ≡ v + c) where
+  flag-one : v ≤ 1
+  flag-one = rw flag (go found)
+    where
+      go : (b : Bool) → cond b 1 0 ≤ 1
+      go true = omega arith
+      go false = omega arith
+
+  run-first : (l : List Slot) (t : Slot) (j : ℕ) (objects now later before mid : List ℕ) → j < length before → RunGathered (suc j) l objects now before mid c → Tried t now later found
+      → RunGathered j (t ∷ l) objects later before (set mid j v) n
+  unfolding reached chosen reach
+  run-first l t j objects now later before mid h g tried =
+      record {
+        most = let m = g .most in let k = flag-one in omega arith;
+        flags = λ ops held. let r = reach ops l in
+            let w : suc j + length l ≡ j + suc (length l) = omega arith in
+            let z = reached ops l ++ drop (suc j + length l) before in
+            ap (λ (x : List ℕ). set x j v) (g .flags ops held ∙ ap (λ (x : List ℕ). x ++ z) (take-suc before j 0 h) ∙ append-assoc (take j before) (getD before j 0 ∷ []) z)
+            ∙ set-at (take j before) (getD before j 0) z v j (length-take-le j before (omega arith))
+            ∙ rw (flag, tried .found r (g .objects ops held), w);
+        count = λ ops held. sum ∙ rw (flag, tried .found (reach ops l) (g .objects ops held), g .count ops held) (sym (count-at ops (t ∷ l) 0 (omega arith)));
+        objects = λ ops held. tried .objects (reach ops l) (g .objects ops held);
+      }
+
+  -- so it is by their positions
+  pub run-more : (l : List Slot) (i j to : ℕ) (objects now later before mid : List ℕ) → i ≡ suc j → j < to → to ≤ length l → j < length before
+      → RunGathered i (slice i to l) objects now before mid c → Tried (slotAt l j) now later found → RunGathered j (slice j to l) objects later before (set mid j v) n
+  run-more l i j to objects now later before mid e h k w g tried =
+      rw (slice-cons j to l noSlot h k) (run-first (slice (suc j) to l) (slotAt l j) j objects now later before mid w (rw e at g) tried)
 
 -- of no candidates none is found
 pub gathered-none : (l : List Slot) (objects flags : List ℕ) → Gathered (take 0 l) objects flags flags 0
 unfolding reached chosen
 gathered-none l objects flags = record { most = omega arith; flags = λ ops held. refl; count = λ ops held. refl }
 
-module _ (before after objects later : List ℕ) (found : Bool) (v n r : ℕ) (flag : v ≡ cond found 1 0) (sum : n ≡ v + r) where
-  -- one candidate more, which is tried before the others
-  gathered-last : (l : List Slot) (t : Slot) (j : ℕ) → length l ≡ j → j < length before → Tried t objects later found → Gathered l later (set before j v) after r
-      → Gathered (l ++ (t ∷ [])) objects before after n
-  gathered-last l t j e h tried g =
-      let w : length (l ++ (t ∷ [])) ≡ suc j = rw length-append (omega arith) in
-      let k : v ≤ 1 = rw flag (one found) in
-      let m = g .most in
-      let f : (ops : List ℕ) → Holds objects ops → reached ops (l ++ (t ∷ [])) ≡ reached (reachedBy ops t) l ++ (cond found 1 0 ∷ []) =
-      λ ops held. reached-last ops l t ∙ rw (tried .found ops held) in
-      record {
-        most = omega arith;
-        flags = λ ops held. g .flags (reachedBy ops t) (tried .objects ops held)
-            ∙ rw (e, w, flag-set before j v h, f ops held, flag) (sym (append-snoc (reached (reachedBy ops t) l) (cond found 1 0) (drop (suc j) before)));
-        count = λ ops held. sum ∙ rw (f ops held, chosen-last (reached (reachedBy ops t) l) l found t (reached-length (reachedBy ops t) l), flag, g .count (reachedBy ops t) (tried .objects ops held));
-      }
-    where
-      one : (b : Bool) → cond b 1 0 ≤ 1
-      one true = omega arith
-      one false = omega arith
+-- the candidates before a run are tried after it
+gathered-both : (u v : List Slot) (from c r : ℕ) (objects later before mid after : List ℕ) → length u ≡ from → from ≤ length before
+    → RunGathered from v objects later before mid c → Gathered u later mid after r → Gathered (u ++ v) objects before after (c + r)
+gathered-both u v from c r objects later before mid after e h g k =
+    record {
+      most = let m = g .most in let n = k .most in rw length-append (omega arith);
+      flags = λ ops held. let o = reach ops v in
+          let w : drop from mid ≡ reached ops v ++ drop (from + length v) before =
+          ap (drop from) (g .flags ops held) ∙ drop-at (take from before) (reached ops v ++ drop (from + length v) before) from (length-take-le from before h) in
+          k .flags o (g .objects ops held) ∙ rw (reached-both ops u v, length-append, e, w, append-assoc);
+      count = λ ops held. let o = reach ops v in
+          rw (reached-both ops u v, chosen-both (reached o u) (reached ops v) u v (reached-length o u), length-append, g .count ops held, k .count o (g .objects ops held)) (omega arith);
+    }
 
-  -- so it is by their positions
-  pub gathered-more : (l : List Slot) (i j : ℕ) → i ≡ suc j → j < length l → j < length before → Tried (slotAt l j) objects later found
-      → Gathered (take j l) later (set before j v) after r → Gathered (take i l) objects before after n
-  gathered-more l i j e h k tried g = rw (e, take-suc l j noSlot h) (gathered-last (take j l) (slotAt l j) j (length-take-le j l (omega arith)) k tried g)
+-- so it is by their positions
+pub gathered-more : (l : List Slot) (from i c r : ℕ) (objects later before mid after : List ℕ) → from ≤ i → i ≤ length l → i ≤ length before
+    → RunGathered from (slice from i l) objects later before mid c → Gathered (take from l) later mid after r → Gathered (take i l) objects before after (c + r)
+gathered-more l from i c r objects later before mid after h k w g p =
+    subst (λ (x : List Slot). Gathered x objects before after (c + r)) (ap (λ (x : List Slot). x ++ slice from i l) (sym (take-take from i l h)) ∙ take-append-drop from (take i l))
+    (gathered-both (take from l) (slice from i l) from c r objects later before mid after (length-take-le from l (omega arith)) (omega arith) g p)
 
 -- flags behind those of the slots choose nothing
 chosen-behind : (fs gs : List ℕ) (l : List Slot) → length fs ≡ length l → chosen (fs ++ gs) l ≡ chosen fs l
 unfolding chosen
-chosen-behind [] [] [] e = refl
-chosen-behind [] (g ∷ gs) [] e = refl
-chosen-behind [] gs (s ∷ l) e = absurd (omega arith)
-chosen-behind (f ∷ fs) gs [] e = absurd (omega arith)
-chosen-behind (f ∷ fs) gs (s ∷ l) e = rw (chosen-behind fs gs l (omega arith))
+chosen-behind fs gs l e = ap (chosen (fs ++ gs)) (sym (append-nil l)) ∙ chosen-both fs gs l [] e ∙ rw (none gs, append-nil)
+  where
+    none : (x : List ℕ) → chosen x [] ≡ []
+    none [] = refl
+    none (f ∷ x) = refl
 
 -- nor does any of them name a slot that does not wait
 wait-behind : (fs gs : List ℕ) (l : List Slot) → length fs ≡ length l → AllWait fs l → AllWait (fs ++ gs) l

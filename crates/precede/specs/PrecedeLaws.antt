@@ -1,62 +1,52 @@
 -- Which of the candidates directly precede an operation, and that they decide whether a predecessor waits.
-use Prim.Native.Nat.{ℕ, zero, suc, _≤_, _<_}
+use Prim.Native.Nat.{ℕ, zero, suc, _+_, _≤_, _<_}
+use native.Mathlib.Numerals.{add-one}
 use native.Mathlib.Omega.{arith}
-use mathlib.Core.Path.{_≡_, refl, ap, _∙_}
+use mathlib.Core.Path.{_≡_, refl, sym, ap, _∙_}
 use mathlib.Core.List.{List, [], _∷_, _++_, List·Memᴰ, List·Memᴰ·head, List·Memᴰ·tail}
-use mathlib.Core.Bool.{Bool, true, false, _&&_, _||_, cond}
-use lib.ListN.{length, take}
-use lib.Seq.{take-suc}
+use mathlib.Core.Bool.{Bool, true, false, _&&_, _||_, cond, or-assoc, or-comm}
+use lib.ListN.{length, take, take-append-drop}
+use lib.Seq.{take-take, slice, slice-cons}
 use borrow.Author.Tests.{lt-ltb, le-ltb}
 use Rattle.records.specs.Operation.{Operation, Record}
-use Rattle.records.specs.Fields.{encode}
-use Rattle.entry.specs.Stored.{padded}
 use Rattle.log.specs.Slot.{Slot, isWaiting, sequenceOf}
 use Rattle.log.specs.Order.{directlyPrecedes, any, before, preceded}
 use Rattle.log.specs.Change.{waitingOf}
 use Rattle.log.specs.OrderLaws.{Rising, direct-decides}
-use Rattle.log.specs.GeometryLaws.{good-at}
 use Rattle.log.specs.FreedLaws.{slot-in}
-use Rattle.log.specs.Code.Slots.{slotsIn, slotAt, noSlot, Slotted}
-use Rattle.operands.specs.declared.order.Order.{Order}
-use Rattle.operands.specs.Code.Ordering.{Ordering, Told}
+use Rattle.log.specs.Code.Slots.{slotAt, noSlot}
 use Rattle.precede.specs.Code.Candidates.{waitsBefore, someBefore}
 
--- what is told of the bytes of a slot's record is told of its operation
-pub slot-told : (s : List ℕ) → Slotted s → (i : ℕ) → i < length (slotsIn s) → (x : List ℕ) → x ≡ padded 1040 (encode (slotAt (slotsIn s) i .loss)) → (o : Order) → Told x o
-    → Ordering (slotAt (slotsIn s) i .loss .operation) o
-slot-told s u i lt x e o tell = tell (slotAt (slotsIn s) i .loss) _ (good-at 256 64 (slotsIn s) i (u .good) lt .sound) e
-
 -- among no candidates none precedes
-pub some-none : (q : Operation) (l : List Slot) → someBefore q (take 0 l) ≡ false
+pub some-none : (q : Operation) → someBefore q [] ≡ false
 unfolding any waitingOf
-some-none q l = refl
+some-none q = refl
 
--- a test more in front does not matter to another
-pass-by : (x y z w : Bool) → w ≡ (y || z) → (x || w) ≡ (y || (x || z))
-pass-by true true z w e = refl
-pass-by true false z w e = refl
-pass-by false true z w e = e
-pass-by false false z w e = e
-
--- what the last of some candidates adds to the others
-some-last : (q : Operation) (l : List Slot) (t : Slot) → someBefore q (l ++ (t ∷ [])) ≡ (waitsBefore q t || someBefore q l)
+-- what the first of some candidates adds to the others
+some-first : (q : Operation) (t : Slot) (l : List Slot) → someBefore q (t ∷ l) ≡ (waitsBefore q t || someBefore q l)
 unfolding any waitingOf
-some-last q [] t = go (isWaiting t)
+some-first q t l = go (isWaiting t)
   where
-    go : (w : Bool) → any (λ (a : Record). directlyPrecedes (a .operation) q) (cond w (t .loss ∷ []) []) ≡ ((w && directlyPrecedes (t .loss .operation) q) || false)
+    go : (w : Bool) → any (λ (a : Record). directlyPrecedes (a .operation) q) (cond w (t .loss ∷ waitingOf l) (waitingOf l))
+        ≡ ((w && directlyPrecedes (t .loss .operation) q) || someBefore q l)
     go true = refl
     go false = refl
-some-last q (s ∷ l) t = go (isWaiting s) (some-last q l t)
-  where
-    go : (w : Bool) → someBefore q (l ++ (t ∷ [])) ≡ (waitsBefore q t || someBefore q l)
-        → any (λ (a : Record). directlyPrecedes (a .operation) q) (cond w (s .loss ∷ waitingOf (l ++ (t ∷ []))) (waitingOf (l ++ (t ∷ []))))
-        ≡ (waitsBefore q t || any (λ (a : Record). directlyPrecedes (a .operation) q) (cond w (s .loss ∷ waitingOf l) (waitingOf l)))
-    go true e = pass-by (directlyPrecedes (s .loss .operation) q) (waitsBefore q t) (someBefore q l) _ e
-    go false e = e
 
--- among one candidate more one precedes if the last does, or one of the others
-pub some-more : (q : Operation) (l : List Slot) (i j : ℕ) → i ≡ suc j → j < length l → someBefore q (take i l) ≡ (waitsBefore q (slotAt l j) || someBefore q (take j l))
-some-more q l i j e h = rw (e, take-suc l j noSlot h) (some-last q (take j l) (slotAt l j))
+-- among two lists of candidates one precedes if one of either list does
+some-both : (q : Operation) (u v : List Slot) → someBefore q (u ++ v) ≡ (someBefore q u || someBefore q v)
+some-both q [] v = rw (some-none q)
+some-both q (t ∷ u) v = rw (some-first q t (u ++ v), some-both q u v, some-first q t u) (sym (or-assoc (waitsBefore q t) (someBefore q u) (someBefore q v)))
+
+-- in a run of candidates one precedes if the first does, or one of the others
+pub run-next : (q : Operation) (l : List Slot) (j to : ℕ) → j < to → to ≤ length l
+    → someBefore q (slice j to l) ≡ (waitsBefore q (slotAt l j) || someBefore q (slice (j + 1) to l))
+run-next q l j to h k = rw (slice-cons j to l noSlot h k, add-one) (some-first q (slotAt l j) (slice (suc j) to l))
+
+-- among the candidates before a position one precedes if one of the run there does, or one before that run
+pub some-more : (q : Operation) (l : List Slot) (from i : ℕ) → from ≤ i → someBefore q (take i l) ≡ (someBefore q (slice from i l) || someBefore q (take from l))
+some-more q l from i h =
+    ap (someBefore q) (sym (take-append-drop from (take i l))) ∙ some-both q (take from (take i l)) (slice from i l)
+    ∙ or-comm (someBefore q (take from (take i l))) (someBefore q (slice from i l)) ∙ rw (take-take from i l h)
 
 -- no slot from an operation on is before it
 none-later : (b : Record) (l : List Slot) → ((t : Slot) → List·Memᴰ t l → b .sequence ≤ sequenceOf t) → any (λ (a : Record). before a b) (waitingOf l) ≡ false

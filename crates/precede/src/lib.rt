@@ -1,9 +1,10 @@
 // The precedence test and the operations that fsync needs (document 01, "Order and dependence"). Both go through the candidates
-// of a slot, which are the slots before a position, by recursion: "the candidate's sequence number falls at each call". So at
-// most m calls stand inside each other, 1,024.
+// of a slot, which are the slots before a position, by recursion: "the candidate's sequence number falls at each call". A call
+// tries a run of up to 16 candidates, so at most m / 16 + 1 calls, rounded up, stand inside each other: 65 at m = 1,024.
 ghost use mathlib.Core.Path.{_≡_};
-ghost use Prim.Native.Nat.{_≤_, _<_};
+ghost use Prim.Native.Nat.{_-_, _≤_, _<_};
 ghost use lib.ListN.{length, take};
+ghost use lib.Seq.{slice};
 ghost use Rattle.records.specs.Operation.{Operation};
 ghost use Rattle.log.specs.Slot.{sequenceOf};
 ghost use Rattle.log.specs.Order.{preceded, needed};
@@ -12,16 +13,28 @@ ghost use Rattle.log.specs.OrderLaws.{Rising};
 ghost use Rattle.log.specs.Code.Slots.{slotsIn, slotAt, Slotted};
 ghost use Rattle.log.specs.Code.Flags.{chosen, AllWait};
 ghost use Rattle.operands.specs.Code.Ordering.{Ordering, Sized};
-ghost use Rattle.precede.specs.Code.Candidates.{waitsBefore, someBefore, Tried, Gathered};
+ghost use Rattle.precede.specs.Code.Candidates.{waitsBefore, someBefore, RunGathered, Gathered};
+use depend::reach::reach_slot;
 use operands::order::Order;
 use operands::order::directly_precedes;
 use operands::order::order_of;
-use operands::set::add;
 use operands::set::one;
-use operands::set::shares_any;
 use slots::SLOT;
 use slots::slot::loss;
 use slots::slot::waits;
+
+// How many candidates a call tries before it goes on to the earlier ones.
+const RUN: usize = 16;
+
+// Where the run of candidates before a position begins.
+fn run_start(i: usize) -> usize
+    ensures { λ r. ⌜ r ≡ i - 16 ⌝ }
+{
+    if i < RUN {
+        return 0;
+    }
+    i - RUN
+}
 
 // Whether one candidate waits and directly precedes an operation.
 fn precedes_at(s: &[u8], j: usize, b: Order) -> bool
@@ -35,6 +48,22 @@ fn precedes_at(s: &[u8], j: usize, b: Order) -> bool
     false
 }
 
+// Whether the operation of one of the slots from a position up to another waits and directly precedes an operation.
+fn run_precedes(s: &[u8], from: usize, to: usize, b: Order) -> bool
+    requires { ⌜ Slotted (now s) ⌝ }
+    requires { ⌜ (from ≤ to) × (to ≤ length (slotsIn (now s))) × Sized b ⌝ }
+    ensures { λ r. ⌜ ((q : Operation) → Ordering q b → r ≡ someBefore q (slice from to (slotsIn (now (s .entry))))) ⌝ }
+{
+    let mut j = from;
+    while j < to {
+        if precedes_at(s, j, b) {
+            return true;
+        }
+        j += 1;
+    }
+    false
+}
+
 // Whether one of the first i slots' operations waits and directly precedes an operation.
 fn some_precedes(s: &[u8], i: usize, b: Order) -> bool
     requires { ⌜ Slotted (now s) ⌝ }
@@ -44,11 +73,11 @@ fn some_precedes(s: &[u8], i: usize, b: Order) -> bool
     if i == 0 {
         return false;
     }
-    let j = i - 1;
-    if precedes_at(s, j, b) {
+    let from = run_start(i);
+    if run_precedes(s, from, i, b) {
         return true;
     }
-    some_precedes(s, j, b)
+    some_precedes(s, from, b)
 }
 
 // "a predecessor waits": whether a waiting operation precedes that of a slot, directly or through others. The direct test of
@@ -62,20 +91,25 @@ pub fn is_preceded(s: &[u8], i: usize) -> bool
     some_precedes(s, i, order_of(loss(s, i)))
 }
 
-// Tries one candidate: if it waits and has an operand among the objects reached, its operands are reached too.
-fn take_in(s: &[u8], i: usize, reached: &mut [u8; 256]) -> bool
+// The slots from a position up to another that are reached, from the last to the first: sets the flag of each of them, and says
+// how many were found.
+fn gather_run(s: &[u8], from: usize, to: usize, reached: &mut [u8; 256], found: &mut [u8]) -> usize
     requires { ⌜ Slotted (now s) ⌝ }
-    requires { ⌜ i < length (slotsIn (now s)) ⌝ }
-    ensures { λ r. ⌜ Tried (slotAt (slotsIn (now (s .entry))) i) (now (reached .entry)) (now (reached .exit)) r ⌝ }
+    requires { ⌜ (from ≤ to) × (to ≤ length (slotsIn (now s))) × (to ≤ length (now found)) ⌝ }
+    ensures { λ r. ⌜ RunGathered from (slice from to (slotsIn (now (s .entry)))) (now (reached .entry)) (now (reached .exit)) (now (found .entry)) (now (found .exit)) r ⌝ }
 {
-    if waits(s, i) {
-        let o = order_of(loss(s, i));
-        if shares_any(reached, o) {
-            add(reached, o);
-            return true;
+    let mut count = 0;
+    let mut j = to;
+    while from < j {
+        j -= 1;
+        if reach_slot(s, j, reached) {
+            found[j] = 1;
+            count += 1;
+        } else {
+            found[j] = 0;
         }
     }
-    false
+    count
 }
 
 // The candidates among the first i slots that are reached, from the last to the first: sets the flag of each of the i slots,
@@ -88,13 +122,9 @@ fn gather(s: &[u8], i: usize, reached: &mut [u8; 256], found: &mut [u8]) -> usiz
     if i == 0 {
         return 0;
     }
-    let j = i - 1;
-    if take_in(s, j, reached) {
-        found[j] = 1;
-        return 1 + gather(s, j, reached, found);
-    }
-    found[j] = 0;
-    gather(s, j, reached, found)
+    let from = run_start(i);
+    let count = gather_run(s, from, i, reached, found);
+    count + gather(s, from, reached, found)
 }
 
 // "It needs d sends: all waiting operations with that object as operand and their predecessors": a flag for each slot, and d.

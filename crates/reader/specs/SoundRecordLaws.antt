@@ -46,12 +46,12 @@ use Rattle.reader.specs.Answer.{spanIf, objectsIn, namesIn, rangeIn, who
 use Rattle.reader.specs.Code.Found.{partsFrom}
 
 -- a step that did not end in a refusal had something to go on with
-number-went : {A : Type 0} (f : Field) (refused a : A) (g : ℕ → Place → A) → (refused ≡ a → ⊥) → onNumber f refused g ≡ a
+pub number-went : {A : Type 0} (f : Field) (refused a : A) (g : ℕ → Place → A) → (refused ≡ a → ⊥) → onNumber f refused g ≡ a
     → (v : ℕ) × (q : Place) × (f ≡ Number v q) × (g v q ≡ a)
 number-went (Number v q) refused a g other e = (v, q, refl, e)
 number-went NoField refused a g other e = absurd (other e)
 
-part-went : {A : Type 0} (f : Stretch) (refused a : A) (g : ℕ → ℕ → Place → A) → (refused ≡ a → ⊥) → onPart f refused g ≡ a
+pub part-went : {A : Type 0} (f : Stretch) (refused a : A) (g : ℕ → ℕ → Place → A) → (refused ≡ a → ⊥) → onPart f refused g ≡ a
     → (b k : ℕ) × (q : Place) × (f ≡ Part b k q) × (g b k q ≡ a)
 part-went (Part b k q) refused a g other e = (b, k, q, refl, e)
 part-went NoPart refused a g other e = absurd (other e)
@@ -62,7 +62,7 @@ no-objects o p e = let z : _≡_ {A = ℕ} 0 1 = cc in omega arith
 no-names : (n : Names) (p : Place) → NoNames ≡ NamesAre n p → ⊥
 no-names n p e = let z : _≡_ {A = ℕ} 0 1 = cc in omega arith
 
-no-range : (g : Range) (p : Place) → NoRange ≡ RangeIs g p → ⊥
+pub no-range : (g : Range) (p : Place) → NoRange ≡ RangeIs g p → ⊥
 no-range g p e = let z : _≡_ {A = ℕ} 0 1 = cc in omega arith
 
 no-head : (h : Head) (p : Place) → NoHead ≡ HeadIs h p → ⊥

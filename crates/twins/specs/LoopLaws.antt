@@ -27,12 +27,6 @@ module _ (k n : ℕ) (f : ℕ → Bool) (size : k ≡ n) where
   pub passed : (i : ℕ) → n ≤ i → ((j : ℕ) → j < i → f j ≡ true) → true ≡ every k f
   passed i h all = sym (every-intro k f (λ j l. all j (omega arith)))
 
--- A list of zeros has 0 in every place.
-pub all-zero : (k j : ℕ) → getD {A = ℕ} (replicate k 0) j 0 ≡ 0
-all-zero zero j = refl
-all-zero (suc k) zero = refl
-all-zero (suc k) (suc j) = all-zero k j
-
 -- numbers of the first i entries, and 0 behind them
 abbrev pub Passed : (Entry → ℕ) → Volume → ℕ → List ℕ → Type 0
 Passed f v i l = ((j : ℕ) → j < i → getD l j 0 ≡ f (entryAt v j)) × ((j : ℕ) → i ≤ j → getD l j 0 ≡ 0)

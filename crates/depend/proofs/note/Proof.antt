@@ -1,9 +1,7 @@
 -- `depend::note` meets its contract: the used slots are lent on as a part. Assumes nothing.
 use Prim.Native.Nat.{ℕ, _*_}
-use native.Mathlib.Omega.{arith}
 use mathlib.Core.Path.{_≡_, sym, ap, _∙_, subst}
 use mathlib.Core.List.{List}
-use lib.ListN.{length}
 use Rattle.log.specs.Slot.{Slot}
 use Rattle.log.specs.Stored.{encodeSlots, readLog}
 use Rattle.log.specs.StoredLaws.{length-slots}

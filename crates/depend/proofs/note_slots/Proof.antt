@@ -1,6 +1,6 @@
--- the set. Assumes nothing.
 -- `depend::note_slots` meets its contract. The loop's invariant: the slots from the place on are noted, and what they reach is in
-use Prim.Native.Nat.{ℕ, _+_, _-_, _*_, _/_, _≤_, _<_}
+-- the set. Assumes nothing.
+use Prim.Native.Nat.{ℕ, _/_, _≤_}
 use native.Mathlib.Omega.{arith}
 use mathlib.Core.Path.{_≡_, sym, ap, _∙_, subst}
 use mathlib.Core.List.{List}

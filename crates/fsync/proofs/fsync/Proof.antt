@@ -49,10 +49,13 @@ needed-requires c κs =
     let a = t .args in
     let u = t .pre .1 .0 in
     let q = y .used .ensures .1 (a .n) (a .b) u in
-    let e = lent-slots (a .n) (a .b) (a .m) (a .log .now) u (y .used .result) q in
-    (lent-slotted (a .n) (a .b) (a .m) (a .log .now) u (y .used .result) q,
-      ((t .pre .1 .1 .1, omega (arith, ap (λ (x : List Slot). length x) e, used-most (a .n) (a .b) (a .m) (a .log .now) u, u .most)),
-        subst (Rising sequenceOf) (sym e) (formed-rising (a .n) (a .b) (a .m) (readLog (a .m) (a .log .now)) (u .form))))
+    let e = lent-slots (a .n) (a .b) (a .m) (a .log .now) u (y .used .result) q in (
+      lent-slotted (a .n) (a .b) (a .m) (a .log .now) u (y .used .result) q,
+      (
+        (t .pre .1 .1 .1, omega (arith, ap (λ (x : List Slot). length x) e, used-most (a .n) (a .b) (a .m) (a .log .now) u, u .most)),
+        subst (Rising sequenceOf) (sym e) (formed-rising (a .n) (a .b) (a .m) (readLog (a .m) (a .log .now)) (u .form)),
+      ),
+    )
 
 sub-send-found : tie.Need-sub-send-found
 sub-send-found c = search needs
@@ -74,9 +77,16 @@ send-found-requires c κs =
     let a = t .args in
     let u = t .pre .1 .0 in
     let q = y .used .ensures .1 (a .n) (a .b) u in
-    let e = lent-slots (a .n) (a .b) (a .m) (a .log .now) u (y .used .result) q in
-    (t .pre .0, (lent-slotted (a .n) (a .b) (a .m) (a .log .now) u (y .used .result) q, (ap (goodSlots (a .n) (a .b)) e ∙ used-good (a .n) (a .b) (a .m) (a .log .now) u,
-      room-kept {j = 1024} (search needs) (omega (arith, ap (λ (x : List Slot). length x) e, used-most (a .n) (a .b) (a .m) (a .log .now) u, u .most)))))
+    let e = lent-slots (a .n) (a .b) (a .m) (a .log .now) u (y .used .result) q in (
+      t .pre .0,
+      (
+        lent-slotted (a .n) (a .b) (a .m) (a .log .now) u (y .used .result) q,
+        (
+          ap (goodSlots (a .n) (a .b)) e ∙ used-good (a .n) (a .b) (a .m) (a .log .now) u,
+          room-kept {j = 1024} (search needs) (omega (arith, ap (λ (x : List Slot). length x) e, used-most (a .n) (a .b) (a .m) (a .log .now) u, u .most)),
+        ),
+      ),
+    )
 
 least-requires : tie.Need-least-requires
 least-requires c κs = search needs

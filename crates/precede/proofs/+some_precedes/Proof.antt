@@ -2,7 +2,7 @@
 -- number. Assumes nothing.
 use borrow.Author.Needs.{needs}
 use native.Mathlib.Omega.{arith}
-use Prim.Native.Nat.{ℕ, _-_, _<_}
+use Prim.Native.Nat.{ℕ, _<_}
 use mathlib.Core.Path.{sym, _∙_}
 use Rattle.search.specs.AnswerLaws.{settled}
 use Rattle.log.specs.Code.Slots.{slotsIn}
@@ -12,7 +12,8 @@ use borrow.Fn.PlainCycle.{Measures, is, falls, and}
 use Rattle.precede.proofs.some_precedes.Reads as some-precedes
 use Rattle.precede.proofs.some_precedes.Kinds as kinds
 use Rattle.precede.proofs.+some_precedes.Lts-some_precedes as lts
-use Rattle.precede.proofs.precedes_at.Reads as precedes-at
+use Rattle.precede.proofs.run_start.Reads as run-start
+use Rattle.precede.proofs.run_precedes.Reads as run-precedes
 use Rattle.precede.proofs.+some_precedes.{statement}
 use Rattle.precede.proofs.+some_precedes.Tie.{close}
 
@@ -27,33 +28,33 @@ abbrev below : ℕ → In 1 kinds.ps
 below t = and 1 kinds.ps (falls 1 kinds.ps _<_ μ t) some-precedes.Pre
 
 abbrev claims : ℕ → lts.Claims
-claims t = (precedes-at.Asked, precedes-at.Learnt, below t, some-precedes.Post)
+claims t = (run-start.Asked, run-start.Learnt, run-precedes.Asked, run-precedes.Learnt, below t, some-precedes.Post)
 
 returns : (t : ℕ) → lts.Need-returns (claims t) (at t) some-precedes.Post
-returns t c = let a = c .before .before .args in λ q tell. rw (c .if1 .taken) (sym (some-none q (slotsIn (a .s .now))))
+returns t c = λ q tell. rw (c .if1 .taken) (sym (some-none q))
 
-sub-j : (t : ℕ) → lts.Need-sub-j (claims t) (at t) some-precedes.Post
-sub-j t c = search needs
+run-start-requires : (t : ℕ) → lts.Need-run-start-requires (claims t) (at t) some-precedes.Post
+run-start-requires t c κs = search needs
 
-precedes-at-requires : (t : ℕ) → lts.Need-precedes-at-requires (claims t) (at t) some-precedes.Post
-precedes-at-requires t c κs = search needs
+run-precedes-requires : (t : ℕ) → lts.Need-run-precedes-requires (claims t) (at t) some-precedes.Post
+run-precedes-requires t c κs = let p = c .before .before .before .pre .1 in (p .0, (omega arith, p .1 .0, p .1 .1))
 
 returns-2 : (t : ℕ) → lts.Need-returns-2 (claims t) (at t) some-precedes.Post
 returns-2 t c =
-    let p = c .before in
-    let a = p .before .before .before .args in
-    λ q tell. sym (some-more q (slotsIn (a .s .now)) (a .i) (a .i - 1) (omega arith) (omega arith) ∙ rw (settled (p .precedes-at .ensures q tell) (c .if2 .taken)))
+    let w = c .before in
+    let a = w .before .before .before .before .args in
+    λ q tell. sym (some-more q (slotsIn (a .s .now)) (w .before .run-start .result) (a .i) (omega arith) ∙ rw (settled (w .run-precedes .ensures q tell) (c .if2 .taken)))
 
 some-precedes-requires : (t : ℕ) → lts.Need-some-precedes-requires (claims t) (at t) some-precedes.Post
-some-precedes-requires t c κs = let p = c .before .before .before .before .pre in (omega arith, (p .1 .0, (omega arith, p .1 .1 .1)))
+some-precedes-requires t c κs = let p = c .before .before .before .before .before .pre .1 in (omega arith, (p .0, (omega arith, p .1 .1)))
 
 returns-3 : (t : ℕ) → lts.Need-returns-3 (claims t) (at t) some-precedes.Post
 returns-3 t c =
-    let p = c .before .before in
-    let a = p .before .before .before .args in
+    let w = c .before .before in
+    let a = w .before .before .before .before .args in
     λ q tell. c .some-precedes .ensures q tell
-    ∙ sym (some-more q (slotsIn (a .s .now)) (a .i) (a .i - 1) (omega arith) (omega arith) ∙ rw (settled (p .precedes-at .ensures q tell) (c .before .if2 .left)))
+    ∙ sym (some-more q (slotsIn (a .s .now)) (w .before .run-start .result) (a .i) (omega arith) ∙ rw (settled (w .run-precedes .ensures q tell) (c .before .if2 .left)))
 
 pub +some-precedes-spec : {M : Type 1} → statement M
 +some-precedes-spec = close μ λ t.
-    lts.spec (claims t) (at t) some-precedes.Post (returns t) (sub-j t) (precedes-at-requires t) (returns-2 t) (some-precedes-requires t) (returns-3 t)
+    lts.spec (claims t) (at t) some-precedes.Post (returns t) (run-start-requires t) (run-precedes-requires t) (returns-2 t) (some-precedes-requires t) (returns-3 t)

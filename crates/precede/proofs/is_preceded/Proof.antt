@@ -3,7 +3,8 @@
 use borrow.Author.Needs.{needs}
 use mathlib.Core.Path.{sym, _∙_}
 use Rattle.log.specs.Code.Slots.{slotsIn}
-use Rattle.precede.specs.PrecedeLaws.{slot-told, earlier-decide}
+use Rattle.depend.specs.ReachedLaws.{slot-told}
+use Rattle.precede.specs.PrecedeLaws.{earlier-decide}
 use Rattle.precede.proofs.is_preceded.Statement.{statement}
 use Rattle.precede.proofs.is_preceded.Tie as tie
 

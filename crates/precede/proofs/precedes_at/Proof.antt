@@ -3,7 +3,7 @@
 use borrow.Author.Needs.{needs}
 use mathlib.Core.Path.{_∙_}
 use Rattle.search.specs.AnswerLaws.{settled}
-use Rattle.precede.specs.PrecedeLaws.{slot-told}
+use Rattle.depend.specs.ReachedLaws.{slot-told}
 use Rattle.precede.proofs.precedes_at.Statement.{statement}
 use Rattle.precede.proofs.precedes_at.Tie as tie
 

@@ -7,7 +7,8 @@ use lib.ListN.{length, length-set}
 use Rattle.entry.specs.Entry.{parentOf}
 use Rattle.search.specs.Stored.{readVolume}
 use Rattle.search.specs.LentLaws.{length-read}
-use Rattle.twins.specs.LoopLaws.{all-zero, Passed, gather-next, gather-ended}
+use Rattle.buffer.specs.ZeroLaws.{zeros-at}
+use Rattle.twins.specs.LoopLaws.{Passed, gather-next, gather-ended}
 use Rattle.form.proofs.parents.parents_of.Statement.{statement}
 use Rattle.form.proofs.parents.parents_of.Tie as tie
 
@@ -18,7 +19,7 @@ abbrev μ-loop : tie.MeasureT-loop
 μ-loop s n b parents₀ i₀ parents i = n - i
 
 loop-holds : tie.Need-loop-holds Inv-loop μ-loop
-loop-holds c = (omega arith, refl, (λ j h. absurd (omega arith), λ j h. all-zero 256 j))
+loop-holds c = (omega arith, refl, (λ j h. absurd (omega arith), λ j h. zeros-at 256 j))
 
 entry-requires : tie.Need-entry-requires Inv-loop μ-loop
 entry-requires c κs = (c .before .before .before .pre, omega arith)

@@ -7,7 +7,8 @@ use lib.ListN.{length, getD, take, length-set}
 use lib.Seq.{take-all}
 use Rattle.records.specs.Fields.{objectsOf}
 use Rattle.records.specs.ListLaws.{count-objects}
-use Rattle.operands.specs.LoopLaws.{all-zero, stored-more, stored-small}
+use Rattle.buffer.specs.ZeroLaws.{zeros-at}
+use Rattle.operands.specs.LoopLaws.{stored-more, stored-small}
 use Rattle.operands.proofs.order.gathered.Statement.{statement}
 use Rattle.operands.proofs.order.gathered.Tie as tie
 
@@ -19,7 +20,7 @@ abbrev μ-loop : tie.MeasureT-loop
 μ-loop list count objects₀ i₀ objects i = count - i
 
 loop-holds : tie.Need-loop-holds Inv-loop μ-loop
-loop-holds c = let l = c .before .args .list .now in (omega arith, sym (count-objects l), refl, refl, λ j. omega (arith, all-zero 8 j))
+loop-holds c = let l = c .before .args .list .now in (omega arith, sym (count-objects l), refl, refl, λ j. omega (arith, zeros-at 8 j))
 
 object-of-requires : tie.Need-object-of-requires Inv-loop μ-loop
 object-of-requires c κs = omega (arith, count-objects (c .before .before .before .args .list .now))

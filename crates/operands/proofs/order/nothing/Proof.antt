@@ -1,12 +1,12 @@
 -- `operands::order::nothing` meets its contract: zeros lie within the limits.
 -- Assumes nothing.
 use native.Mathlib.Omega.{arith}
-use Rattle.operands.specs.LoopLaws.{all-zero}
+use Rattle.buffer.specs.ZeroLaws.{zeros-at}
 use Rattle.operands.proofs.order.nothing.Statement.{statement}
 use Rattle.operands.proofs.order.nothing.Tie as tie
 
 returns : tie.Need-returns
-returns c = record { few = omega arith; small = λ i. omega (arith, all-zero 8 i); near = omega arith }
+returns c = record { few = omega arith; small = λ i. omega (arith, zeros-at 8 i); near = omega arith }
 
 pub nothing-spec : {M : Type 1} → statement M
 nothing-spec = tie.close (tie.spec returns)

@@ -9,7 +9,8 @@ use Rattle.entry.specs.Entry.{nameOf}
 use Rattle.search.specs.Stored.{readVolume}
 use Rattle.search.specs.LentLaws.{length-read}
 use Rattle.twins.specs.Code.Checks.{digestFrom, digest}
-use Rattle.twins.specs.LoopLaws.{all-zero, Passed, gather-next, gather-ended}
+use Rattle.buffer.specs.ZeroLaws.{zeros-at}
+use Rattle.twins.specs.LoopLaws.{Passed, gather-next, gather-ended}
 use Rattle.twins.proofs.digest.digests_of.Statement.{statement}
 use Rattle.twins.proofs.digest.digests_of.Tie as tie
 
@@ -20,7 +21,7 @@ abbrev μ-loop : tie.MeasureT-loop
 μ-loop s n b digests₀ i₀ digests i = n - i
 
 loop-holds : tie.Need-loop-holds Inv-loop μ-loop
-loop-holds c = (omega arith, refl, (λ j h. absurd (omega arith), λ j h. all-zero 256 j))
+loop-holds c = (omega arith, refl, (λ j h. absurd (omega arith), λ j h. zeros-at 256 j))
 
 entry-requires : tie.Need-entry-requires Inv-loop μ-loop
 entry-requires c κs = (c .before .before .before .pre, omega arith)

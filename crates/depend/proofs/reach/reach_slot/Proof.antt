@@ -1,13 +1,12 @@
--- `precede::take_in` meets its contract: the slot's record tells its operands.
+-- `depend::reach::reach_slot` meets its contract: the slot's record tells its operands.
 -- Assumes nothing.
 use borrow.Author.Needs.{needs}
 use mathlib.Core.Path.{sym}
 use mathlib.Core.Bool.{true, false}
 use Rattle.search.specs.AnswerLaws.{settled}
-use Rattle.precede.specs.PrecedeLaws.{slot-told}
-use Rattle.precede.specs.GatherLaws.{tried-waiting, tried-lost}
-use Rattle.precede.proofs.take_in.Statement.{statement}
-use Rattle.precede.proofs.take_in.Tie as tie
+use Rattle.depend.specs.ReachedLaws.{slot-told, tried-waiting, tried-lost}
+use Rattle.depend.proofs.reach.reach_slot.Statement.{statement}
+use Rattle.depend.proofs.reach.reach_slot.Tie as tie
 
 waits-requires : tie.Need-waits-requires
 waits-requires c κs = search needs
@@ -49,8 +48,8 @@ returns-2 c =
 returns-3 : tie.Need-returns-3
 returns-3 c = let a = c .before .before .before .args in tried-lost _ (a .reached .now) (settled (c .before .waits .ensures) (c .if1 .left))
 
-pub take-in-spec : {M : Type 1} → statement M
-take-in-spec =
+pub reach-slot-spec : {M : Type 1} → statement M
+reach-slot-spec =
     tie.close
     (tie.spec
     waits-requires
