@@ -13,7 +13,7 @@ use borrow.Author.Tests.{eq-eqb, ne-eqb}
 use Rattle.buffer.specs.Patch.{patch}
 use Rattle.entry.specs.WriteLaws.{length-patch}
 use Rattle.log.specs.Slot.{Slot}
-use Rattle.log.specs.Stored.{encodeSlot, encodeSlots}
+use Rattle.log.specs.Stored.{slotBytes, encodeSlot, encodeSlots}
 use Rattle.log.specs.Code.Slots.{Slotted, slotsIn, slotPart, noSlot, slotAt}
 use Rattle.log.specs.Code.Flags.{kept}
 use Rattle.log.specs.GeometryLaws.{slotted-length, slots-append, take-slots, drop-slots, slot-stored}
@@ -21,13 +21,13 @@ use Rattle.closing.specs.MoveLaws.{length-part, tail-cleared}
 
 -- one slot closed up
 pub slot-closed : (s : List ℕ) (i : ℕ) → Slotted s
-    → take (i * 1048) s ++ (drop (i * 1048 + 1048) s ++ replicate 1048 0) ≡ encodeSlots (take i (slotsIn s) ++ drop (i + 1) (slotsIn s)) ++ replicate 1048 0
+    → take (i * slotBytes) s ++ (drop (i * slotBytes + slotBytes) s ++ replicate slotBytes 0) ≡ encodeSlots (take i (slotsIn s) ++ drop (i + 1) (slotsIn s)) ++ replicate slotBytes 0
 slot-closed s i h =
     let l = slotsIn s in
-    let t : take (i * 1048) s ≡ encodeSlots (take i l) = rw (h .stored) at (take-slots 256 64 i l (h .good)) in
-    let k : (i + 1) * 1048 ≡ i * 1048 + 1048 = omega arith in
-    let d : drop (i * 1048 + 1048) s ≡ encodeSlots (drop (i + 1) l) = rw (h .stored, k) at (drop-slots 256 64 (i + 1) l (h .good)) in
-    rw (t, d, slots-append) (sym (append-assoc (encodeSlots (take i l)) (encodeSlots (drop (i + 1) l)) (replicate 1048 0)))
+    let t : take (i * slotBytes) s ≡ encodeSlots (take i l) = rw (h .stored) at (take-slots 256 64 i l (h .good)) in
+    let k : (i + 1) * slotBytes ≡ i * slotBytes + slotBytes = omega arith in
+    let d : drop (i * slotBytes + slotBytes) s ≡ encodeSlots (drop (i + 1) l) = rw (h .stored, k) at (drop-slots 256 64 (i + 1) l (h .good)) in
+    rw (t, d, slots-append) (sym (append-assoc (encodeSlots (take i l)) (encodeSlots (drop (i + 1) l)) (replicate slotBytes 0)))
 
 -- what is kept of the slots from a place on: the slot there, unless it is in the set, and what is kept of those behind it
 kept-next : (freed : List ℕ) (l : List Slot) (i : ℕ) (b : Bool) → i < length l → i < length freed → eqb (getD freed i 0) 1 ≡ b
@@ -47,10 +47,10 @@ pub record Closing (e freed s : List ℕ) (read write : ℕ) : Type 0 where
   pub within : read ≤ length (slotsIn e)
   pub down : write ≤ read
   pub count : write + length (kept (drop read freed) (drop read (slotsIn e))) ≡ length (kept freed (slotsIn e))
-  pub moved : take (write * 1048) s ++ encodeSlots (kept (drop read freed) (drop read (slotsIn e))) ≡ encodeSlots (kept freed (slotsIn e))
-  pub ahead : drop (read * 1048) s ≡ drop (read * 1048) e
+  pub moved : take (write * slotBytes) s ++ encodeSlots (kept (drop read freed) (drop read (slotsIn e))) ≡ encodeSlots (kept freed (slotsIn e))
+  pub ahead : drop (read * slotBytes) s ≡ drop (read * slotBytes) e
   pub long : length s ≡ length e
-  pub whole : length e ≡ length (slotsIn e) * 1048
+  pub whole : length e ≡ length (slotsIn e) * slotBytes
 
 -- nothing is read
 pub none-read : (e freed : List ℕ) → Slotted e → Closing e freed e 0 0
@@ -84,38 +84,38 @@ module _ (e freed s : List ℕ) (read write : ℕ) (h : Slotted e) (many : lengt
   pub turn-freed : getD freed read 0 ≡ 1 → Closing e freed s (read + 1) write
   turn-freed t =
       let k = kept-next freed (slotsIn e) read true more (omega arith) (eq-eqb (getD freed read 0) 1 t) in
-      let p : (read + 1) * 1048 ≡ read * 1048 + 1048 = omega arith in
+      let p : (read + 1) * slotBytes ≡ read * slotBytes + slotBytes = omega arith in
       record {
         within = omega arith;
         down = omega arith;
         count = rw k at (g .count);
         moved = rw k at (g .moved);
-        ahead = rw p (drop-more s e (read * 1048) 1048 (g .ahead));
+        ahead = rw p (drop-more s e (read * slotBytes) slotBytes (g .ahead));
         long = g .long;
         whole = g .whole;
       }
 
   -- any other slot is moved down
-  pub turn-kept : (getD freed read 0 ≡ 1 → ⊥) → Closing e freed (patch s (write * 1048) (slotPart s read)) (read + 1) (write + 1)
+  pub turn-kept : (getD freed read 0 ≡ 1 → ⊥) → Closing e freed (patch s (write * slotBytes) (slotPart s read)) (read + 1) (write + 1)
   unfolding encodeSlots
   turn-kept t =
       let l = slotsIn e in
       let p = slotPart s read in
       let k = kept-next freed l read false more (omega arith) (ne-eqb (getD freed read 0) 1 t) in
       let d = g .down in
-      let n : length p ≡ 1048 = length-part s read (omega arith) in
-      let x : p ≡ encodeSlot (slotAt l read) = ap (take 1048) (g .ahead) ∙ slot-stored e h read more in
-      let w : (write + 1) * 1048 ≡ write * 1048 + length p = omega arith in
-      let r : (read + 1) * 1048 ≡ read * 1048 + 1048 = omega arith in
-      let m : take (write * 1048) s ++ (encodeSlot (slotAt l read) ++ encodeSlots (kept (drop (read + 1) freed) (drop (read + 1) l))) ≡ encodeSlots (kept freed l) =
+      let n : length p ≡ slotBytes = length-part s read (omega arith) in
+      let x : p ≡ encodeSlot (slotAt l read) = ap (take slotBytes) (g .ahead) ∙ slot-stored e h read more in
+      let w : (write + 1) * slotBytes ≡ write * slotBytes + length p = omega arith in
+      let r : (read + 1) * slotBytes ≡ read * slotBytes + slotBytes = omega arith in
+      let m : take (write * slotBytes) s ++ (encodeSlot (slotAt l read) ++ encodeSlots (kept (drop (read + 1) freed) (drop (read + 1) l))) ≡ encodeSlots (kept freed l) =
       rw k at (g .moved) in
       record {
         within = omega arith;
         down = omega arith;
         count = omega (arith, ap length k, g .count);
-        moved = rw (w, patched-front s (write * 1048) p (omega arith), append-assoc, x) m;
-        ahead = patched-rest s (write * 1048) p (omega arith) ((read + 1) * 1048) (omega arith) ∙ rw r (drop-more s e (read * 1048) 1048 (g .ahead));
-        long = length-patch s (write * 1048) p (omega arith) ∙ g .long;
+        moved = rw (w, patched-front s (write * slotBytes) p (omega arith), append-assoc, x) m;
+        ahead = patched-rest s (write * slotBytes) p (omega arith) ((read + 1) * slotBytes) (omega arith) ∙ rw r (drop-more s e (read * slotBytes) slotBytes (g .ahead));
+        long = length-patch s (write * slotBytes) p (omega arith) ∙ g .long;
         whole = g .whole;
       }
 
@@ -127,11 +127,11 @@ module _ (e freed s : List ℕ) (read write : ℕ) (g : Closing e freed s read w
   pub all-counted : write ≡ length (kept freed (slotsIn e))
   all-counted = omega (arith, ap length none-left, g .count)
 
-  pub all-closed : (x : List ℕ) → x ≡ replicate (length (take (length s - write * 1048) (drop (write * 1048) s))) 0
-      → take (write * 1048) s ++ (x ++ drop (length s - write * 1048) (drop (write * 1048) s))
-      ≡ encodeSlots (kept freed (slotsIn e)) ++ replicate ((length (slotsIn e) - length (kept freed (slotsIn e))) * 1048) 0
+  pub all-closed : (x : List ℕ) → x ≡ replicate (length (take (length s - write * slotBytes) (drop (write * slotBytes) s))) 0
+      → take (write * slotBytes) s ++ (x ++ drop (length s - write * slotBytes) (drop (write * slotBytes) s))
+      ≡ encodeSlots (kept freed (slotsIn e)) ++ replicate ((length (slotsIn e) - length (kept freed (slotsIn e))) * slotBytes) 0
   unfolding encodeSlots
   all-closed x q =
-      let m : take (write * 1048) s ≡ encodeSlots (kept freed (slotsIn e)) = rw (none-left, append-nil) at (g .moved) in
-      let n : length s - write * 1048 ≡ (length (slotsIn e) - length (kept freed (slotsIn e))) * 1048 = omega (arith, all-counted) in
-      tail-cleared s (write * 1048) x q ∙ rw (m, n)
+      let m : take (write * slotBytes) s ≡ encodeSlots (kept freed (slotsIn e)) = rw (none-left, append-nil) at (g .moved) in
+      let n : length s - write * slotBytes ≡ (length (slotsIn e) - length (kept freed (slotsIn e))) * slotBytes = omega (arith, all-counted) in
+      tail-cleared s (write * slotBytes) x q ∙ rw (m, n)

@@ -8,11 +8,12 @@ use mathlib.Core.List.{List, _++_, append-assoc, append-nil}
 use lib.ListN.{length, getD, set, take, drop, replicate, length-drop, take-append-drop, drop-of-length-le}
 use lib.Seq.{length-take-le, paste, paste-suc, take-paste, drop-paste, getD-drop, take-all, drop-drop}
 use Rattle.buffer.specs.Patch.{patch}
+use Rattle.log.specs.Stored.{slotBytes}
 use Rattle.log.specs.Code.Slots.{slotPart}
 
 -- a slot's part of bytes that reach over it
-pub length-part : (s : List ℕ) (i : ℕ) → i * 1048 + 1048 ≤ length s → length (slotPart s i) ≡ 1048
-length-part s i h = length-take-le 1048 (drop (i * 1048) s) (rw length-drop (omega arith))
+pub length-part : (s : List ℕ) (i : ℕ) → i * slotBytes + slotBytes ≤ length s → length (slotPart s i) ≡ slotBytes
+length-part s i h = length-take-le slotBytes (drop (i * slotBytes) s) (rw length-drop (omega arith))
 
 -- a turn of a move down: what was moved so far does not reach the next byte, which is still the one that stood there
 pub move-on : (l : List ℕ) (at from : ℕ) (m : List ℕ) (j : ℕ) → m ≡ paste l at (drop from l) j → at ≤ from → from + j < length l
@@ -56,14 +57,14 @@ gap-closed l at len m e x p n h k q =
     tail-cleared m e x q ∙ rw (t, r) (append-assoc (take at l) (drop (at + len) l) (replicate len 0))
 
 -- a slot's bytes, all moved
-pub slot-moved : (l : List ℕ) (from to : ℕ) (m : List ℕ) (i : ℕ) → m ≡ paste l (to * 1048) (drop (from * 1048) l) i → i ≡ 1048
-    → from * 1048 + 1048 ≤ length l → m ≡ patch l (to * 1048) (slotPart l from)
+pub slot-moved : (l : List ℕ) (from to : ℕ) (m : List ℕ) (i : ℕ) → m ≡ paste l (to * slotBytes) (drop (from * slotBytes) l) i → i ≡ slotBytes
+    → from * slotBytes + slotBytes ≤ length l → m ≡ patch l (to * slotBytes) (slotPart l from)
 unfolding patch
 slot-moved l from to m i e k h =
-    e ∙ rw (k, length-part l from h) (append-assoc (take (to * 1048) l) (slotPart l from) (drop (to * 1048 + 1048) l))
+    e ∙ rw (k, length-part l from h) (append-assoc (take (to * slotBytes) l) (slotPart l from) (drop (to * slotBytes + slotBytes) l))
 
 -- a slot that stands at its place already
-pub slot-stays : (l : List ℕ) (from to : ℕ) → to ≡ from → from * 1048 + 1048 ≤ length l → l ≡ patch l (to * 1048) (slotPart l from)
+pub slot-stays : (l : List ℕ) (from to : ℕ) → to ≡ from → from * slotBytes + slotBytes ≤ length l → l ≡ patch l (to * slotBytes) (slotPart l from)
 unfolding patch
 slot-stays l from to e h =
-    sym (rw (e, length-part l from h, ← drop-drop 1048 (from * 1048) l, take-append-drop, take-append-drop))
+    sym (rw (e, length-part l from h, ← drop-drop slotBytes (from * slotBytes) l, take-append-drop, take-append-drop))

@@ -5,7 +5,7 @@ ghost use mathlib.Core.List.{_++_};
 ghost use Prim.Native.Nat.{_+_, _*_, _-_, _≤_, _<_};
 ghost use lib.ListN.{length, take, drop, replicate};
 ghost use Rattle.buffer.specs.Patch.{patch};
-ghost use Rattle.log.specs.Stored.{encodeSlots};
+ghost use Rattle.log.specs.Stored.{slotBytes, encodeSlots};
 ghost use Rattle.log.specs.Code.Slots.{Slotted, slotsIn, slotPart};
 ghost use Rattle.log.specs.Code.Flags.{kept};
 use buffer::zero::clear;
@@ -30,15 +30,15 @@ pub fn close_gap(s: &mut [u8], at: usize, len: usize)
 pub fn close_slot(s: &mut [u8], i: usize)
     requires { ⌜ Slotted (now s) ⌝ }
     requires { ⌜ i < length (slotsIn (now s)) ⌝ }
-    ensures { λ r. ⌜ now (s .exit) ≡ encodeSlots (take i (slotsIn (now (s .entry))) ++ drop (i + 1) (slotsIn (now (s .entry)))) ++ replicate 1048 0 ⌝ }
+    ensures { λ r. ⌜ now (s .exit) ≡ encodeSlots (take i (slotsIn (now (s .entry))) ++ drop (i + 1) (slotsIn (now (s .entry)))) ++ replicate slotBytes 0 ⌝ }
 {
     close_gap(s, i * SLOT, SLOT);
 }
 
 // Moves the bytes of one slot down to another's place; a slot that stands there already is not copied.
 fn move_slot(s: &mut [u8], from: usize, to: usize)
-    requires { ⌜ (to ≤ from) × (from * 1048 + 1048 ≤ length (now s)) ⌝ }
-    ensures { λ r. ⌜ now (s .exit) ≡ patch (now (s .entry)) (to * 1048) (slotPart (now (s .entry)) from) ⌝ }
+    requires { ⌜ (to ≤ from) × (from * slotBytes + slotBytes ≤ length (now s)) ⌝ }
+    ensures { λ r. ⌜ now (s .exit) ≡ patch (now (s .entry)) (to * slotBytes) (slotPart (now (s .entry)) from) ⌝ }
 {
     if to == from {
         return;
@@ -56,7 +56,7 @@ fn move_slot(s: &mut [u8], from: usize, to: usize)
 pub fn close_slots(s: &mut [u8], freed: &[u8]) -> usize
     requires { ⌜ Slotted (now s) ⌝ }
     requires { ⌜ length (slotsIn (now s)) ≤ length (now freed) ⌝ }
-    ensures { λ r. ⌜ now (s .exit) ≡ encodeSlots (kept (now (freed .entry)) (slotsIn (now (s .entry)))) ++ replicate ((length (slotsIn (now (s .entry))) - length (kept (now (freed .entry)) (slotsIn (now (s .entry))))) * 1048) 0 ⌝ }
+    ensures { λ r. ⌜ now (s .exit) ≡ encodeSlots (kept (now (freed .entry)) (slotsIn (now (s .entry)))) ++ replicate ((length (slotsIn (now (s .entry))) - length (kept (now (freed .entry)) (slotsIn (now (s .entry))))) * slotBytes) 0 ⌝ }
     ensures { λ r. ⌜ r ≡ length (kept (now (freed .entry)) (slotsIn (now (s .entry)))) ⌝ }
 {
     let count = s.len() / SLOT;

@@ -8,6 +8,7 @@ use Rattle.records.specs.Operation.{operands}
 use Rattle.records.specs.Fields.{encode}
 use Rattle.entry.specs.Stored.{padded}
 use Rattle.log.specs.Slot.{Slot, isWaiting}
+use Rattle.log.specs.Stored.{recordBytes}
 use Rattle.log.specs.Order.{shares}
 use Rattle.log.specs.Code.Slots.{slotsIn, slotAt, Slotted}
 use Rattle.log.specs.Code.Flags.{Holds}
@@ -17,7 +18,7 @@ use Rattle.operands.specs.Code.Ordering.{Ordering, Told}
 use Rattle.depend.specs.Code.Reached.{Tried}
 
 -- what is told of the bytes of a slot's record is told of its operation
-pub slot-told : (s : List ℕ) → Slotted s → (i : ℕ) → i < length (slotsIn s) → (x : List ℕ) → x ≡ padded 1040 (encode (slotAt (slotsIn s) i .loss)) → (o : Order) → Told x o
+pub slot-told : (s : List ℕ) → Slotted s → (i : ℕ) → i < length (slotsIn s) → (x : List ℕ) → x ≡ padded recordBytes (encode (slotAt (slotsIn s) i .loss)) → (o : Order) → Told x o
     → Ordering (slotAt (slotsIn s) i .loss .operation) o
 slot-told s u i lt x e o tell = tell (slotAt (slotsIn s) i .loss) _ (loss-valid s u i lt) e
 

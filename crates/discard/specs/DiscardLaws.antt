@@ -8,7 +8,7 @@ use lib.ListN.{length, set, take, drop, length-map}
 use lib.Seq.{drop-cons, drop-length, set-getD}
 use Rattle.log.specs.Programs.{union}
 use Rattle.log.specs.Slot.{lost, Slot, withState, withDependents, Log, withMarks, withSlots, isWaiting, goodSlots, wellFormed}
-use Rattle.log.specs.Stored.{encodeSlots, encodeLog, readLog}
+use Rattle.log.specs.Stored.{headBytes, slotBytes, encodeSlots, encodeLog, readLog}
 use Rattle.log.specs.Change.{discarded, dependentsOf, discard}
 use Rattle.log.specs.SlotLaws.{slots-inv, slots-of, formed-inv, formed-of}
 use Rattle.log.specs.StoredLaws.{length-slots, read-log}
@@ -80,7 +80,7 @@ pub record DoneFrom (i : ℕ) (l : List Slot) (s : List ℕ) (found : ℕ) : Typ
 
 module _ (s : List ℕ) (u : Slotted s) where
   -- It starts past the last slot.
-  pub done-start : DoneFrom (length s / 1048) (slotsIn s) s 0
+  pub done-start : DoneFrom (length s / slotBytes) (slotsIn s) s 0
   unfolding dependentsOf
   done-start =
       let l = slotsIn s in
@@ -157,11 +157,11 @@ all-lost-good n b m l w =
 module _ (m : ℕ) (s : List ℕ) (u : Logged 256 64 m s) {k : ℕ} (e : k ≡ usedIn m s) where
   -- What comes back from the slots stands in the place of what was lent on.
   pub cut-back : {x : List ℕ} → x ≡ encodeSlots (map discarded (slotsIn (lentPart k s)))
-      → take 8 s ++ (x ++ drop (8 + k * 1048 - 8) (drop 8 s)) ≡ encodeLog m (allLost (readLog m s))
+      → take headBytes s ++ (x ++ drop (headBytes + k * slotBytes - headBytes) (drop headBytes s)) ≡ encodeLog m (allLost (readLog m s))
   cut-back {x} h =
       let l = readLog m s .slots in
-      let w : length (encodeSlots (map discarded l)) ≡ usedIn m s * 1048 =
-      length-slots 256 64 (map discarded l) (all-discarded-good 256 64 l (used-good 256 64 m s u)) ∙ ap (λ (z : ℕ). z * 1048) (length-map l discarded) in
+      let w : length (encodeSlots (map discarded l)) ≡ usedIn m s * slotBytes =
+      length-slots 256 64 (map discarded l) (all-discarded-good 256 64 l (used-good 256 64 m s u)) ∙ ap (λ (z : ℕ). z * slotBytes) (length-map l discarded) in
       used-back 256 64 m s u k e x (map discarded l) (h ∙ ap (λ (z : List Slot). encodeSlots (map discarded z)) (lent-slots 256 64 m s u k e)) w
 
   -- The log without its new marks is well formed.

@@ -9,6 +9,7 @@ use lib.ListN.{length, take, drop}
 use lib.Dec.{eqb}
 use borrow.Author.Count.{below-more}
 use Rattle.log.specs.Slot.{Slot, isWaiting, sequenceOf}
+use Rattle.log.specs.Stored.{slotBytes}
 use Rattle.log.specs.Change.{removed, earliest, isSequence, isLossOf}
 use Rattle.log.specs.Code.Slots.{slotsIn, slotAt, Slotted}
 use Rattle.log.specs.GeometryLaws.{slotted-length}
@@ -30,12 +31,12 @@ module _ (f : Slot → Bool) (l : List Slot) where
   found-nothing h = earliest-not f l h
 
 -- There are as many used slots as their bytes have room for.
-pub slots-count : (s : List ℕ) → Slotted s → length s / 1048 ≡ length (slotsIn s)
+pub slots-count : (s : List ℕ) → Slotted s → length s / slotBytes ≡ length (slotsIn s)
 slots-count s h = omega (arith, slotted-length s h)
 
 module _ (f : Slot → Bool) (s : List ℕ) (u : Slotted s) (i : ℕ) (before : NoneBefore f (slotsIn s) i) where
   -- A search from the first slot on ends at a slot that passes the test.
-  pub found-here : i < length s / 1048 → f (slotAt (slotsIn s) i) ≡ true → FoundBy f (slotsIn s) (At i)
+  pub found-here : i < length s / slotBytes → f (slotAt (slotsIn s) i) ≡ true → FoundBy f (slotsIn s) (At i)
   found-here h t = (omega (arith, slots-count s u), t, before)
 
   -- It goes on past one that does not.
@@ -43,7 +44,7 @@ module _ (f : Slot → Bool) (s : List ℕ) (u : Slotted s) (i : ℕ) (before : 
   found-next t = below-more (λ j. f (slotAt (slotsIn s) j) ≡ false) i before t
 
   -- Behind the last slot nothing was found.
-  pub found-end : length s / 1048 ≤ i → FoundBy f (slotsIn s) Nothing
+  pub found-end : length s / slotBytes ≤ i → FoundBy f (slotsIn s) Nothing
   found-end h j k = before j (omega (arith, slots-count s u))
 
 -- Of a waiting slot the sequence number is asked, and of a lost one the program.

@@ -17,7 +17,7 @@ use Rattle.reader.specs.Code.Reader.{recordAt}
 use Rattle.entry.specs.Stored.{padded}
 use Rattle.applies.specs.HeldLaws.{held-there, held-next, held-bytes}
 use Rattle.log.specs.Slot.{Slot, Log, withSlots, goodSlots}
-use Rattle.log.specs.Stored.{encodeSlots, encodeLog, readLog}
+use Rattle.log.specs.Stored.{headBytes, slotBytes, recordBytes, encodeSlots, encodeLog, readLog}
 use Rattle.log.specs.Change.{isLossOf, earliest, taken}
 use Rattle.log.specs.SlotLaws.{slots-inv, slots-of}
 use Rattle.log.specs.GeometryLaws.{used-good}
@@ -29,7 +29,7 @@ use Rattle.discard.specs.Code.Found.{FoundBy}
 use Rattle.discard.specs.Code.Taken.{Written, freedAt}
 use Rattle.discard.specs.FoundLaws.{found-earliest, found-removed}
 
-module _ (s : List ℕ) (u : Slotted s) (i : ℕ) (lt : i < length (slotsIn s)) (t : List ℕ) (h : t ≡ padded 1040 (encode (slotAt (slotsIn s) i .loss))) where
+module _ (s : List ℕ) (u : Slotted s) (i : ℕ) (lt : i < length (slotsIn s)) (t : List ℕ) (h : t ≡ padded recordBytes (encode (slotAt (slotsIn s) i .loss))) where
   -- The reader finds the loss record of a slot in its bytes.
   pub loss-there : NoRecord ≡ recordAt t 0 → ⊥
   loss-there = held-there t (slotAt (slotsIn s) i .loss) _ (loss-valid s u i lt) h
@@ -42,7 +42,7 @@ module _ (s : List ℕ) (u : Slotted s) (i : ℕ) (lt : i < length (slotsIn s)) 
     pub loss-next : w .next ≡ length (take (w .next) t)
     loss-next = held-next t (slotAt (slotsIn s) i .loss) _ (loss-valid s u i lt) h w q ∙ sym (ap length loss-bytes)
 
-    pub loss-most : length (take (w .next) t) ≤ 1040
+    pub loss-most : length (take (w .next) t) ≤ recordBytes
     loss-most = rw loss-bytes (encode-length (slotAt (slotsIn s) i .loss) (loss-valid s u i lt) .1)
 
     -- Putting these bytes is writing the record.
@@ -69,8 +69,8 @@ module _ (m : ℕ) (s : List ℕ) (u : Logged 256 64 m s) {k : ℕ} (e : k ≡ u
   lent-written p = rw (lent-slots 256 64 m s u k e) at p
 
   -- What comes back with that slot closed up is the log without it.
-  pub freed-back : {x : List ℕ} → x ≡ encodeSlots (take i (slotsIn (lentPart k s)) ++ drop (i + 1) (slotsIn (lentPart k s))) ++ replicate 1048 0
-      → take 8 s ++ (x ++ drop (8 + k * 1048 - 8) (drop 8 s)) ≡ encodeLog m (freedAt i (readLog m s))
+  pub freed-back : {x : List ℕ} → x ≡ encodeSlots (take i (slotsIn (lentPart k s)) ++ drop (i + 1) (slotsIn (lentPart k s))) ++ replicate slotBytes 0
+      → take headBytes s ++ (x ++ drop (headBytes + k * slotBytes - headBytes) (drop headBytes s)) ≡ encodeLog m (freedAt i (readLog m s))
   freed-back {x} h =
       let l = readLog m s .slots in
       let j : i + 1 ≡ suc i = add-one i in

@@ -2,7 +2,7 @@
 ghost use mathlib.Core.Path.{_≡_};
 ghost use Prim.Native.Nat.{_≤_, _<_};
 ghost use lib.ListN.{length};
-ghost use Rattle.log.specs.Stored.{encodeLog, readLog};
+ghost use Rattle.log.specs.Stored.{recordBytes, encodeLog, readLog};
 ghost use Rattle.log.specs.Code.Slots.{slotsIn, slotAt, Slotted, Logged, usedIn};
 ghost use Rattle.discard.specs.Code.Taken.{Written, freedAt};
 use buffer::put::put_bytes;
@@ -18,7 +18,7 @@ use slots::slot::loss;
 fn put_loss(s: &[u8], i: usize, own: &mut [u8]) -> usize
     requires { ⌜ Slotted (now s) ⌝ }
     requires { ⌜ i < length (slotsIn (now s)) ⌝ }
-    requires { ⌜ 1040 ≤ length (now own) ⌝ }
+    requires { ⌜ recordBytes ≤ length (now own) ⌝ }
     ensures { λ x. ⌜ Written (slotAt (slotsIn (now (s .entry))) i .loss) (now (own .entry)) (now (own .exit)) x ⌝ }
 {
     let rec = loss(s, i);
@@ -33,7 +33,7 @@ fn put_loss(s: &[u8], i: usize, own: &mut [u8]) -> usize
 pub fn take(log: &mut [u8], m: usize, i: usize, own: &mut [u8]) -> usize
     requires { ⌜ Logged 256 64 m (now log) ⌝ }
     requires { ⌜ i < usedIn m (now log) ⌝ }
-    requires { ⌜ 1040 ≤ length (now own) ⌝ }
+    requires { ⌜ recordBytes ≤ length (now own) ⌝ }
     ensures { λ x. ⌜ Written (slotAt (readLog m (now (log .entry)) .slots) i .loss) (now (own .entry)) (now (own .exit)) x ⌝ }
     ensures { λ x. ⌜ now (log .exit) ≡ encodeLog m (freedAt i (readLog m (now (log .entry)))) ⌝ }
 {

@@ -12,6 +12,7 @@ ghost use Rattle.search.specs.Code.Lent.{Formed};
 ghost use Rattle.applies.specs.Apply.{apply};
 ghost use Rattle.log.specs.Programs.{with};
 ghost use Rattle.log.specs.Slot.{Log};
+ghost use Rattle.log.specs.Stored.{lossAt};
 ghost use Rattle.issuing.specs.Code.Issued.{Issuable, Begins, Ready, Issued};
 use buffer::put::put_four;
 use depend::note_slots;
@@ -44,7 +45,7 @@ fn apply_record(view: &mut [u8], n: usize, b: usize, rec: &[u8])
 
 // The slot's state and dependents: its operation waits, and its issuer depends on it.
 fn open_slot(log: &mut [u8], at: usize, program: usize)
-    requires { ⌜ (at + 8 ≤ length (now log)) × (program < 32) ⌝ }
+    requires { ⌜ (at + lossAt ≤ length (now log)) × (program < 32) ⌝ }
     ensures { λ r. ⌜ now (log .exit) ≡ patch (now (log .entry)) at (bytes 4 1 ++ bytes 4 (with 0 program)) ⌝ }
 {
     let next = put_four(log, at, WAITING);

@@ -14,7 +14,7 @@ use Rattle.records.specs.Operation.{Record, operands}
 use Rattle.records.specs.Fields.{allBelow, fits, parts}
 use Rattle.entry.specs.Stored.{padded}
 use Rattle.log.specs.Slot.{Slot, Log, withSlots, goodSlot, goodSlots, wellFormed}
-use Rattle.log.specs.Stored.{encodeSlot, encodeSlots, encodeLog, readSlots, readLog}
+use Rattle.log.specs.Stored.{headBytes, slotBytes, encodeSlot, encodeSlots, encodeLog, readSlots, readLog}
 use Rattle.log.specs.SlotLaws.{and-both, GoodSlot, slots-inv, slots-of, formed-inv, formed-of}
 use Rattle.log.specs.StoredLaws.{length-slot, length-slots, length-log, read-slots, read-log}
 use Rattle.log.specs.Code.Slots.{slotsIn, slotPart, slotAt, noSlot, Slotted, Logged, usedIn, usedPart}
@@ -92,28 +92,28 @@ good-at n b (s ∷ l) zero h lt = slots-inv n b s l h .0
 good-at n b (s ∷ l) (suc i) h lt = good-at n b l i (slots-inv n b s l h .1) (omega arith)
 
 -- where the bytes of a slot begin that is not the first
-slot-next : (n b i : ℕ) (s : Slot) (l : List Slot) → goodSlots n b (s ∷ l) ≡ true → suc i * 1048 ≡ length (encodeSlot s) + i * 1048
+slot-next : (n b i : ℕ) (s : Slot) (l : List Slot) → goodSlots n b (s ∷ l) ≡ true → suc i * slotBytes ≡ length (encodeSlot s) + i * slotBytes
 slot-next n b i s l h = omega (arith, length-slot s (slots-inv n b s l h .0 .sound))
 
 -- the bytes of the first i slots
-pub take-slots : (n b i : ℕ) (l : List Slot) → goodSlots n b l ≡ true → take (i * 1048) (encodeSlots l) ≡ encodeSlots (take i l)
+pub take-slots : (n b i : ℕ) (l : List Slot) → goodSlots n b l ≡ true → take (i * slotBytes) (encodeSlots l) ≡ encodeSlots (take i l)
 unfolding encodeSlots
 take-slots n b zero l h = refl
-take-slots n b (suc i) [] h = take-nil (suc i * 1048)
+take-slots n b (suc i) [] h = take-nil (suc i * slotBytes)
 take-slots n b (suc i) (s ∷ l) h = rw (slot-next n b i s l h, take-append-add, take-slots n b i l (slots-inv n b s l h .1))
 
 -- the bytes of the slots behind the first i
-pub drop-slots : (n b i : ℕ) (l : List Slot) → goodSlots n b l ≡ true → drop (i * 1048) (encodeSlots l) ≡ encodeSlots (drop i l)
+pub drop-slots : (n b i : ℕ) (l : List Slot) → goodSlots n b l ≡ true → drop (i * slotBytes) (encodeSlots l) ≡ encodeSlots (drop i l)
 unfolding encodeSlots
 drop-slots n b zero l h = refl
-drop-slots n b (suc i) [] h = drop-nil (suc i * 1048)
+drop-slots n b (suc i) [] h = drop-nil (suc i * slotBytes)
 drop-slots n b (suc i) (s ∷ l) h = rw (slot-next n b i s l h, drop-append-add) (drop-slots n b i l (slots-inv n b s l h .1))
 
 -- good slots are read back from just their bytes
 pub slots-in : (n b : ℕ) (l : List Slot) → goodSlots n b l ≡ true → slotsIn (encodeSlots l) ≡ l
 slots-in n b l h =
     let w = length-slots n b l h in
-    let k : length (encodeSlots l) / 1048 ≡ length l = rw w (omega arith) in
+    let k : length (encodeSlots l) / slotBytes ≡ length l = rw w (omega arith) in
     rw k (ap (readSlots (length l)) (sym (append-nil (encodeSlots l))) ∙ read-slots n b (length l) 0 l h (omega arith))
 
 -- the bytes of good slots, of any geometry, are those of used slots
@@ -123,7 +123,7 @@ slotted-of n b l hn hb le h =
     record { most = rw e le; good = rw e (good-most n b l hn hb h); stored = rw e }
 
 -- used slots stand in just so many bytes
-pub slotted-length : (s : List ℕ) → Slotted s → length s ≡ length (slotsIn s) * 1048
+pub slotted-length : (s : List ℕ) → Slotted s → length s ≡ length (slotsIn s) * slotBytes
 slotted-length s u = ap length (sym (u .stored)) ∙ length-slots 256 64 (slotsIn s) (u .good)
 
 -- the bytes of the slot at a position are those of the slot that is read there
@@ -132,9 +132,9 @@ unfolding encodeSlots
 slot-stored s u i lt =
     let l = slotsIn s in
     let t = slotAt l i in
-    let d : drop (i * 1048) s ≡ encodeSlots (drop i l) = ap (drop (i * 1048)) (sym (u .stored)) ∙ drop-slots 256 64 i l (u .good) in
+    let d : drop (i * slotBytes) s ≡ encodeSlots (drop i l) = ap (drop (i * slotBytes)) (sym (u .stored)) ∙ drop-slots 256 64 i l (u .good) in
     let c : encodeSlots (drop i l) ≡ encodeSlot t ++ encodeSlots (drop (suc i) l) = ap encodeSlots (drop-cons l i noSlot lt) in
-    rw (d, c) (take-at (encodeSlot t) (encodeSlots (drop (suc i) l)) 1048 (length-slot t (good-at 256 64 l i (u .good) lt .sound)))
+    rw (d, c) (take-at (encodeSlot t) (encodeSlots (drop (suc i) l)) slotBytes (length-slot t (good-at 256 64 l i (u .good) lt .sound)))
 
 -- two lists of good slots make one
 pub good-both : (n b : ℕ) (u v : List Slot) → goodSlots n b u ≡ true → goodSlots n b v ≡ true → goodSlots n b (u ++ v) ≡ true
@@ -145,36 +145,36 @@ good-both n b (s ∷ u) v g h =
     and-eq-true-iff (goodSlot n b s) (goodSlots n b (u ++ v)) .1 (x .0, good-both n b u v (x .1) h)
 
 -- another slot's bytes at a position are those of the slots with that one there
-pub slot-set : (s : List ℕ) → Slotted s → (i : ℕ) → i < length (slotsIn s) → (t : Slot) → length (encodeSlot t) ≡ 1048
-    → patch s (i * 1048) (encodeSlot t) ≡ encodeSlots (set (slotsIn s) i t)
+pub slot-set : (s : List ℕ) → Slotted s → (i : ℕ) → i < length (slotsIn s) → (t : Slot) → length (encodeSlot t) ≡ slotBytes
+    → patch s (i * slotBytes) (encodeSlot t) ≡ encodeSlots (set (slotsIn s) i t)
 unfolding patch encodeSlots
 slot-set s u i lt t w =
     let l = slotsIn s in
-    let k : i * 1048 + length (encodeSlot t) ≡ suc i * 1048 = rw w (omega arith) in
-    let a : take (i * 1048) s ≡ encodeSlots (take i l) = ap (take (i * 1048)) (sym (u .stored)) ∙ take-slots 256 64 i l (u .good) in
-    let d : drop (suc i * 1048) s ≡ encodeSlots (drop (suc i) l) = ap (drop (suc i * 1048)) (sym (u .stored)) ∙ drop-slots 256 64 (suc i) l (u .good) in
+    let k : i * slotBytes + length (encodeSlot t) ≡ suc i * slotBytes = rw w (omega arith) in
+    let a : take (i * slotBytes) s ≡ encodeSlots (take i l) = ap (take (i * slotBytes)) (sym (u .stored)) ∙ take-slots 256 64 i l (u .good) in
+    let d : drop (suc i * slotBytes) s ≡ encodeSlots (drop (suc i) l) = ap (drop (suc i * slotBytes)) (sym (u .stored)) ∙ drop-slots 256 64 (suc i) l (u .good) in
     rw (k, a, d) (sym (ap encodeSlots (set-split l i t lt) ∙ slots-append (take i l) (t ∷ drop (suc i) l)))
 
 -- they are used slots again, if the new one is good
 pub slotted-set : (s : List ℕ) → Slotted s → (i : ℕ) → i < length (slotsIn s) → (t : Slot) → GoodSlot 256 64 t
-    → Slotted (patch s (i * 1048) (encodeSlot t)) × (slotsIn (patch s (i * 1048) (encodeSlot t)) ≡ set (slotsIn s) i t)
+    → Slotted (patch s (i * slotBytes) (encodeSlot t)) × (slotsIn (patch s (i * slotBytes) (encodeSlot t)) ≡ set (slotsIn s) i t)
 slotted-set s u i lt t g =
     let l = slotsIn s in
     let h = good-set 256 64 l i t (u .good) g in
     let c : length (set l i t) ≤ 1024 = rw length-set (u .most) in
     rw (slot-set s u i lt t (length-slot t (g .sound))) (slotted-of 256 64 (set l i t) (omega arith) (omega arith) c h, slots-in 256 64 (set l i t) h)
 
-head-of : (m : ℕ) (l : Log) → take 8 (encodeLog m l) ≡ bytes 4 (l .next) ++ bytes 4 (l .marks)
+head-of : (m : ℕ) (l : Log) → take headBytes (encodeLog m l) ≡ bytes 4 (l .next) ++ bytes 4 (l .marks)
 unfolding encodeLog bytes
 head-of m l = refl
 
-rest-of : (m : ℕ) (l : Log) → drop 8 (encodeLog m l) ≡ encodeSlots (l .slots) ++ replicate (m * 1048 - length (encodeSlots (l .slots))) 0
+rest-of : (m : ℕ) (l : Log) → drop headBytes (encodeLog m l) ≡ encodeSlots (l .slots) ++ replicate (m * slotBytes - length (encodeSlots (l .slots))) 0
 unfolding encodeLog bytes
 rest-of m l = refl
 
-log-of : (m : ℕ) (l : Log) → encodeLog m l ≡ (bytes 4 (l .next) ++ bytes 4 (l .marks)) ++ padded (m * 1048) (encodeSlots (l .slots))
+log-of : (m : ℕ) (l : Log) → encodeLog m l ≡ (bytes 4 (l .next) ++ bytes 4 (l .marks)) ++ padded (m * slotBytes) (encodeSlots (l .slots))
 unfolding encodeLog
-log-of m l = sym (append-assoc (bytes 4 (l .next)) (bytes 4 (l .marks)) (padded (m * 1048) (encodeSlots (l .slots))))
+log-of m l = sym (append-assoc (bytes 4 (l .next)) (bytes 4 (l .marks)) (padded (m * slotBytes) (encodeSlots (l .slots))))
 
 -- a well-formed log's bytes are those of a log
 pub logged-whole : (n b m : ℕ) (l : Log) → wellFormed n b m l ≡ true → n ≤ 256 → b ≤ 64 → m ≤ 1024 → Logged n b m (encodeLog m l)
@@ -182,7 +182,7 @@ logged-whole n b m l h hn hb hm =
     let e = read-log n b m l h in
     record { objects = hn; blocks = hb; most = hm; whole = length-log n b m l h; form = rw e h; stored = rw e }
 
--- the next number and the marks are those in a log's first 8 bytes
+-- the next number and the marks are those in a log's head
 pub logged-next : (m : ℕ) (s : List ℕ) → numeral (take 4 s) ≡ readLog m s .next
 unfolding readLog
 logged-next m s = refl
@@ -200,28 +200,28 @@ module _ (n b m : ℕ) (s : List ℕ) (u : Logged n b m s) where
   pub used-good : goodSlots n b (readLog m s .slots) ≡ true
   used-good = formed-inv n b m (readLog m s) (u .form) .good
 
-  used-length : length (encodeSlots (readLog m s .slots)) ≡ usedIn m s * 1048
+  used-length : length (encodeSlots (readLog m s .slots)) ≡ usedIn m s * slotBytes
   used-length = length-slots n b (readLog m s .slots) used-good
 
-  -- a log's first 8 bytes are its next number and its marks
-  pub head-part : take 8 s ≡ bytes 4 (readLog m s .next) ++ bytes 4 (readLog m s .marks)
-  head-part = ap (take 8) (sym (u .stored)) ∙ head-of m (readLog m s)
+  -- a log's head is its next number and its marks
+  pub head-part : take headBytes s ≡ bytes 4 (readLog m s .next) ++ bytes 4 (readLog m s .marks)
+  head-part = ap (take headBytes) (sym (u .stored)) ∙ head-of m (readLog m s)
 
-  behind-head : drop 8 s ≡ encodeSlots (readLog m s .slots) ++ replicate ((m - usedIn m s) * 1048) 0
+  behind-head : drop headBytes s ≡ encodeSlots (readLog m s .slots) ++ replicate ((m - usedIn m s) * slotBytes) 0
   behind-head =
       let w = used-length in
-      let k : m * 1048 - length (encodeSlots (readLog m s .slots)) ≡ (m - usedIn m s) * 1048 = omega arith in
-      ap (drop 8) (sym (u .stored)) ∙ rest-of m (readLog m s) ∙ rw k
+      let k : m * slotBytes - length (encodeSlots (readLog m s .slots)) ≡ (m - usedIn m s) * slotBytes = omega arith in
+      ap (drop headBytes) (sym (u .stored)) ∙ rest-of m (readLog m s) ∙ rw k
 
   -- the bytes of the used slots are those of the slots that are read
   pub used-bytes : usedPart m s ≡ encodeSlots (readLog m s .slots)
-  used-bytes = rw behind-head (take-at (encodeSlots (readLog m s .slots)) (replicate ((m - usedIn m s) * 1048) 0) (usedIn m s * 1048) used-length)
+  used-bytes = rw behind-head (take-at (encodeSlots (readLog m s .slots)) (replicate ((m - usedIn m s) * slotBytes) 0) (usedIn m s * slotBytes) used-length)
 
   -- "0 free": behind the used slots all is zero
-  pub free-part : drop (8 + usedIn m s * 1048) s ≡ replicate ((m - usedIn m s) * 1048) 0
+  pub free-part : drop (headBytes + usedIn m s * slotBytes) s ≡ replicate ((m - usedIn m s) * slotBytes) 0
   free-part =
-      sym (drop-drop (usedIn m s * 1048) 8 s)
-      ∙ rw behind-head (drop-at (encodeSlots (readLog m s .slots)) (replicate ((m - usedIn m s) * 1048) 0) (usedIn m s * 1048) used-length)
+      sym (drop-drop (usedIn m s * slotBytes) headBytes s)
+      ∙ rw behind-head (drop-at (encodeSlots (readLog m s .slots)) (replicate ((m - usedIn m s) * slotBytes) 0) (usedIn m s * slotBytes) used-length)
 
   -- the slots in the used part are those of the log
   pub used-slots : slotsIn (usedPart m s) ≡ readLog m s .slots
@@ -232,25 +232,25 @@ module _ (n b m : ℕ) (s : List ℕ) (u : Logged n b m s) where
   used-slotted = let le = used-most in let lm = u .most in rw used-bytes (slotted-of n b (readLog m s .slots) (u .objects) (u .blocks) (omega arith) used-good)
 
   -- a log's bytes are its head, its used part and zeros
-  pub logged-parts : s ≡ take 8 s ++ (usedPart m s ++ replicate ((m - usedIn m s) * 1048) 0)
-  logged-parts = sym (take-append-drop 8 s) ∙ ap (λ (y : List ℕ). take 8 s ++ y) (behind-head ∙ ap (λ (y : List ℕ). y ++ replicate ((m - usedIn m s) * 1048) 0) (sym used-bytes))
+  pub logged-parts : s ≡ take headBytes s ++ (usedPart m s ++ replicate ((m - usedIn m s) * slotBytes) 0)
+  logged-parts = sym (take-append-drop headBytes s) ∙ ap (λ (y : List ℕ). take headBytes s ++ y) (behind-head ∙ ap (λ (y : List ℕ). y ++ replicate ((m - usedIn m s) * slotBytes) 0) (sym used-bytes))
 
-  slots-put : (l : List Slot) (z : ℕ) → length (encodeSlots l) + z ≡ usedIn m s * 1048
-      → take 8 s ++ ((encodeSlots l ++ replicate z 0) ++ drop (8 + usedIn m s * 1048) s) ≡ encodeLog m (withSlots l (readLog m s))
+  slots-put : (l : List Slot) (z : ℕ) → length (encodeSlots l) + z ≡ usedIn m s * slotBytes
+      → take headBytes s ++ ((encodeSlots l ++ replicate z 0) ++ drop (headBytes + usedIn m s * slotBytes) s) ≡ encodeLog m (withSlots l (readLog m s))
   slots-put l z e =
       let le = used-most in
-      let k : z + (m - usedIn m s) * 1048 ≡ m * 1048 - length (encodeSlots l) = omega arith in
-      let j : _≡_ {A = List ℕ} (replicate z 0 ++ replicate ((m - usedIn m s) * 1048) 0) (replicate (m * 1048 - length (encodeSlots l)) 0) =
-      rw (← k) (replicate-append-replicate z ((m - usedIn m s) * 1048) 0) in
-      rw (head-part, free-part, append-assoc (encodeSlots l) (replicate z 0) (replicate ((m - usedIn m s) * 1048) 0), j) (sym (log-of m (withSlots l (readLog m s))))
+      let k : z + (m - usedIn m s) * slotBytes ≡ m * slotBytes - length (encodeSlots l) = omega arith in
+      let j : _≡_ {A = List ℕ} (replicate z 0 ++ replicate ((m - usedIn m s) * slotBytes) 0) (replicate (m * slotBytes - length (encodeSlots l)) 0) =
+      rw (← k) (replicate-append-replicate z ((m - usedIn m s) * slotBytes) 0) in
+      rw (head-part, free-part, append-assoc (encodeSlots l) (replicate z 0) (replicate ((m - usedIn m s) * slotBytes) 0), j) (sym (log-of m (withSlots l (readLog m s))))
 
   -- with as many slots put in their place the bytes are those of the log with these slots
-  pub slots-replaced : (l : List Slot) → length (encodeSlots l) ≡ usedIn m s * 1048
-      → take 8 s ++ (encodeSlots l ++ drop (8 + usedIn m s * 1048) s) ≡ encodeLog m (withSlots l (readLog m s))
+  pub slots-replaced : (l : List Slot) → length (encodeSlots l) ≡ usedIn m s * slotBytes
+      → take headBytes s ++ (encodeSlots l ++ drop (headBytes + usedIn m s * slotBytes) s) ≡ encodeLog m (withSlots l (readLog m s))
   slots-replaced l e =
-      ap (λ (y : List ℕ). take 8 s ++ (y ++ drop (8 + usedIn m s * 1048) s)) (sym (append-nil (encodeSlots l))) ∙ slots-put l 0 (omega arith)
+      ap (λ (y : List ℕ). take headBytes s ++ (y ++ drop (headBytes + usedIn m s * slotBytes) s)) (sym (append-nil (encodeSlots l))) ∙ slots-put l 0 (omega arith)
 
   -- with fewer, and zeros behind them, those of the log with just these
   pub slots-fewer : (l : List Slot) (k : ℕ) → goodSlots n b l ≡ true → length l + k ≡ usedIn m s
-      → take 8 s ++ ((encodeSlots l ++ replicate (k * 1048) 0) ++ drop (8 + usedIn m s * 1048) s) ≡ encodeLog m (withSlots l (readLog m s))
-  slots-fewer l k h e = let w = length-slots n b l h in slots-put l (k * 1048) (omega arith)
+      → take headBytes s ++ ((encodeSlots l ++ replicate (k * slotBytes) 0) ++ drop (headBytes + usedIn m s * slotBytes) s) ≡ encodeLog m (withSlots l (readLog m s))
+  slots-fewer l k h e = let w = length-slots n b l h in slots-put l (k * slotBytes) (omega arith)

@@ -20,9 +20,17 @@ headBytes = 8
 abbrev pub slotBytes : ℕ
 slotBytes = 1048
 
--- "state (1: 0 free, 1 waiting, 2 lost), 3 zero bytes, dependents (4"
+-- where the dependents stand in a slot: behind "state (1: 0 free, 1 waiting, 2 lost), 3 zero bytes"
+abbrev pub dependentsAt : ℕ
+dependentsAt = 4
+
+-- where the loss record begins: behind "dependents (4"
 abbrev pub lossAt : ℕ
 lossAt = 8
+
+-- the room for a loss record in a slot
+abbrev pub recordBytes : ℕ
+recordBytes = 1040
 
 abbrev pub logBytes : ℕ → ℕ
 logBytes m = headBytes + m * slotBytes
@@ -30,7 +38,7 @@ logBytes m = headBytes + m * slotBytes
 -- "state (1 ..), 3 zero bytes, dependents (4 ..), a loss record, zeros"
 unfoldable pub encodeSlot : Slot → List ℕ
 encodeSlot s =
-    bytes 1 (stateNumber (s .state)) ++ (replicate 3 0 ++ (bytes 4 (s .dependents) ++ padded (slotBytes - lossAt) (encode (s .loss))))
+    bytes 1 (stateNumber (s .state)) ++ (replicate 3 0 ++ (bytes 4 (s .dependents) ++ padded recordBytes (encode (s .loss))))
 
 unfoldable pub encodeSlots : List Slot → List ℕ
 encodeSlots [] = []
@@ -49,7 +57,7 @@ slotFrom (suc (suc k)) d none = none
 slotFrom (suc (suc k)) d (some r) = some (record { state = lost; dependents = d; loss = r })
 
 unfoldable pub readSlot : List ℕ → Option Slot
-readSlot s = slotFrom (getD s 0 0) (numeral (take 4 (drop 4 s))) (decodeRecord (drop lossAt s))
+readSlot s = slotFrom (getD s 0 0) (numeral (take 4 (drop dependentsAt s))) (decodeRecord (drop lossAt s))
 
 -- "Used slots come first": those up to the first that is none
 abbrev pub onSlot : Option Slot → List Slot → List Slot

@@ -17,23 +17,23 @@ use Rattle.records.specs.DecodeLaws.{decode-encoded}
 use Rattle.entry.specs.Stored.{padded, sameBytes}
 use Rattle.entry.specs.EntryLaws.{same-bytes, bytes-same}
 use Rattle.log.specs.Slot.{State, waiting, lost, stateNumber, Slot, Log, goodSlots, wellFormed}
-use Rattle.log.specs.Stored.{slotBytes, logBytes, encodeSlot, encodeSlots, encodeLog, slotFrom, readSlot, readSlots, readLog, decodeLog}
+use Rattle.log.specs.Stored.{headBytes, slotBytes, dependentsAt, lossAt, recordBytes, logBytes, encodeSlot, encodeSlots, encodeLog, slotFrom, readSlot, readSlots, readLog, decodeLog}
 use Rattle.log.specs.SlotLaws.{slots-inv, formed-inv}
 
 -- bytes and zeros up to a width that they do not pass have that width
 pub length-padded : (w : ℕ) (s : List ℕ) → length s ≤ w → length (padded w s) ≡ w
 length-padded w s h = length-append s _ ∙ rw length-replicate (omega arith)
 
--- "slots of 1,048 bytes"
-pub length-slot : (s : Slot) → valid (s .loss) ≡ true → length (encodeSlot s) ≡ 1048
+-- the bytes of one slot are so many
+pub length-slot : (s : Slot) → valid (s .loss) ≡ true → length (encodeSlot s) ≡ slotBytes
 unfolding encodeSlot bytes
 length-slot s h =
     let e = encode-length (s .loss) h in
-    let p = length-padded 1040 (encode (s .loss)) (e .1) in
+    let p = length-padded recordBytes (encode (s .loss)) (e .1) in
     omega arith
 
 -- the bytes of so many good slots
-pub length-slots : (n b : ℕ) (l : List Slot) → goodSlots n b l ≡ true → length (encodeSlots l) ≡ length l * 1048
+pub length-slots : (n b : ℕ) (l : List Slot) → goodSlots n b l ≡ true → length (encodeSlots l) ≡ length l * slotBytes
 unfolding encodeSlots
 length-slots n b [] h = refl
 length-slots n b (s ∷ l) h =
@@ -42,7 +42,7 @@ length-slots n b (s ∷ l) h =
     let r = length-slots n b l (g .1) in
     length-append (encodeSlot s) (encodeSlots l) ∙ omega arith
 
--- a well-formed log has the bytes of its m slots and 8 more
+-- a well-formed log has the bytes of its head and of its m slots
 pub length-log : (n b m : ℕ) (l : Log) → wellFormed n b m l ≡ true → length (encodeLog m l) ≡ logBytes m
 unfolding encodeLog bytes
 length-log n b m l h =
@@ -55,17 +55,17 @@ length-log n b m l h =
 taken-four : (v : ℕ) (t : List ℕ) → v < 2 ^ 32 → numeral (take 4 (bytes 4 v ++ t)) ≡ v
 taken-four v t h = ap numeral (take-at (bytes 4 v) t 4 (length-bytes 4 v)) ∙ numeral-bytes 4 v h
 
-after-eight : (v w : ℕ) (t : List ℕ) → drop 8 (bytes 4 v ++ (bytes 4 w ++ t)) ≡ t
+behind-head : (v w : ℕ) (t : List ℕ) → drop headBytes (bytes 4 v ++ (bytes 4 w ++ t)) ≡ t
 unfolding bytes
-after-eight v w t = refl
+behind-head v w t = refl
 
-slot-record : (s : Slot) → valid (s .loss) ≡ true → decodeRecord (drop 8 (encodeSlot s)) ≡ some (s .loss)
+slot-record : (s : Slot) → valid (s .loss) ≡ true → decodeRecord (drop lossAt (encodeSlot s)) ≡ some (s .loss)
 unfolding encodeSlot bytes
-slot-record s h = decode-encoded (s .loss) (replicate (1040 - length (encode (s .loss))) 0) h
+slot-record s h = decode-encoded (s .loss) (replicate (recordBytes - length (encode (s .loss))) 0) h
 
-pub slot-dependents : (s : Slot) → s .dependents < 2 ^ 32 → numeral (take 4 (drop 4 (encodeSlot s))) ≡ s .dependents
+pub slot-dependents : (s : Slot) → s .dependents < 2 ^ 32 → numeral (take 4 (drop dependentsAt (encodeSlot s))) ≡ s .dependents
 unfolding encodeSlot bytes
-slot-dependents s d = taken-four (s .dependents) (padded 1040 (encode (s .loss))) d
+slot-dependents s d = taken-four (s .dependents) (padded recordBytes (encode (s .loss))) d
 
 pub slot-state : (s : Slot) → getD (encodeSlot s) 0 0 ≡ stateNumber (s .state) % 256
 unfolding encodeSlot bytes
@@ -123,8 +123,8 @@ read-log n b m l h =
     let e₁ : numeral (take 4 (bytes 4 (l .next) ++ (bytes 4 (l .marks) ++ p))) ≡ l .next = taken-four (l .next) (bytes 4 (l .marks) ++ p) (f .in-four) in
     let d₄ : drop 4 (bytes 4 (l .next) ++ (bytes 4 (l .marks) ++ p)) ≡ bytes 4 (l .marks) ++ p = drop-at (bytes 4 (l .next)) (bytes 4 (l .marks) ++ p) 4 (length-bytes 4 (l .next)) in
     let e₂ : numeral (take 4 (drop 4 (bytes 4 (l .next) ++ (bytes 4 (l .marks) ++ p)))) ≡ l .marks = rw d₄ (taken-four (l .marks) p (f .marks-small)) in
-    let d₈ : drop 8 (bytes 4 (l .next) ++ (bytes 4 (l .marks) ++ p)) ≡ p = after-eight (l .next) (l .marks) p in
-    let e₃ : readSlots m (drop 8 (bytes 4 (l .next) ++ (bytes 4 (l .marks) ++ p))) ≡ l .slots =
+    let d₈ : drop headBytes (bytes 4 (l .next) ++ (bytes 4 (l .marks) ++ p)) ≡ p = behind-head (l .next) (l .marks) p in
+    let e₃ : readSlots m (drop headBytes (bytes 4 (l .next) ++ (bytes 4 (l .marks) ++ p))) ≡ l .slots =
     rw d₈ (read-slots n b m (m * slotBytes - length z) (l .slots) (f .good) (omega arith)) in
     λ i. record { next = e₁ i; marks = e₂ i; slots = e₃ i }
 

@@ -16,7 +16,7 @@ use Rattle.buffer.specs.ZeroLaws.{zeros-replicate, replicate-zeros}
 use Rattle.entry.specs.CheckLaws.{number-back}
 use Rattle.entry.specs.Stored.{padded}
 use Rattle.log.specs.Slot.{State, waiting, lost, stateNumber, Slot, Log, isWaiting, sequenceOf, goodSlots, wellFormed}
-use Rattle.log.specs.Stored.{slotBytes, logBytes, encodeSlot, encodeSlots, encodeLog, readLog, decodeLog, isLog}
+use Rattle.log.specs.Stored.{headBytes, slotBytes, logBytes, encodeSlot, encodeSlots, encodeLog, readLog, decodeLog, isLog}
 use Rattle.log.specs.SlotLaws.{and-both, slots-inv, slots-of, formed-inv, formed-of}
 use Rattle.log.specs.StoredLaws.{length-slot, read-log, decode-encode, encode-decode}
 use Rattle.logform.specs.declared.slot.SlotForm.{SlotForm}
@@ -152,8 +152,8 @@ checks-sound : (n b m : ℕ) (s : List ℕ) → length s ≡ logBytes m → Byte
 unfolding logFormed encodeLog
 checks-sound n b m s size byte h =
     let next = numeral (take 4 s) in
-    let x = and-eq-true-iff (leb 1 next) (slotsFormed n b next m 0 false (drop 8 s)) .0 h in
-    let r = slots-held n b next m 0 false (drop 8 s) (length-drop 8 s ∙ omega arith) (bytes-behind s 8 byte) (x .1) in
+    let x = and-eq-true-iff (leb 1 next) (slotsFormed n b next m 0 false (drop headBytes s)) .0 h in
+    let r = slots-held n b next m 0 false (drop headBytes s) (length-drop headBytes s ∙ omega arith) (bytes-behind s headBytes byte) (x .1) in
     let l : Log = record { next = next; marks = numeral (take 4 (drop 4 s)); slots = r .slots } in
     let form : wellFormed n b m l ≡ true =
     formed-of n b m l
@@ -166,13 +166,13 @@ checks-sound n b m s size byte h =
       order = behind-rising next 0 false (r .slots) (r .order);
     }) in
     let join : List ℕ → List ℕ → List ℕ = λ x y. x ++ y in
-    let rest : take 4 (drop 4 s) ++ drop 8 s ≡ drop 4 s = ap (join (take 4 (drop 4 s))) (sym (drop-drop 4 4 s)) ∙ take-append-drop 4 (drop 4 s) in
+    let rest : take 4 (drop 4 s) ++ drop headBytes s ≡ drop 4 s = ap (join (take 4 (drop 4 s))) (sym (drop-drop 4 4 s)) ∙ take-append-drop 4 (drop 4 s) in
     let stored : encodeLog m l ≡ s =
     ap₂ join (number-back 4 0 s (omega arith) byte) (ap₂ join (number-back 4 4 s (omega arith) byte) (r .stored) ∙ rest) ∙ take-append-drop 4 s in
     ap isLog (ap (decodeLog n b m) (sym stored) ∙ decode-encode n b m l form)
 
 -- The slots' bytes of a log that is stored.
-slots-part : (m : ℕ) (l : Log) → drop 8 (encodeLog m l) ≡ padded (m * slotBytes) (encodeSlots (l .slots))
+slots-part : (m : ℕ) (l : Log) → drop headBytes (encodeLog m l) ≡ padded (m * slotBytes) (encodeSlots (l .slots))
 unfolding encodeLog bytes
 slots-part m l = refl
 
@@ -189,7 +189,7 @@ log-checks n b m l h byte =
     let s = encodeLog m l in
     let order = rising-all n b (l .next) (l .slots) (f .good) (f .order) in
     rw (next-part n b m l h, le-leb 1 (l .next) (f .from-one))
-    (held-slots n b (l .next) m 0 false (l .slots) (f .count) (f .good) order (drop 8 s) (sym (slots-part m l)) (bytes-behind s 8 byte))
+    (held-slots n b (l .next) m 0 false (l .slots) (f .count) (f .good) order (drop headBytes s) (sym (slots-part m l)) (bytes-behind s headBytes byte))
 
 -- Bytes taken for a log pass the tests.
 checks-complete : (n b m : ℕ) (s : List ℕ) → Bytes s → isLog (decodeLog n b m s) ≡ true → logFormed n b m s ≡ true

@@ -27,14 +27,14 @@ use Rattle.reader.specs.FitLaws.{fits-read}
 use Rattle.entry.specs.Stored.{padded}
 use Rattle.entry.specs.CheckLaws.{number-back}
 use Rattle.log.specs.Slot.{State, waiting, lost, stateNumber, Slot, isWaiting, sequenceOf}
-use Rattle.log.specs.Stored.{slotBytes, encodeSlot}
+use Rattle.log.specs.Stored.{slotBytes, dependentsAt, lossAt, recordBytes, encodeSlot}
 use Rattle.log.specs.SlotLaws.{GoodSlot}
 use Rattle.logform.specs.declared.slot.SlotForm.the-variants.{Is, Bad}
 use Rattle.logform.specs.Code.Checks.{frontFormed, formBy, slotForm}
 
 -- the dependents that a slot's bytes tell of
 abbrev dependentsIn : List ℕ → ℕ
-dependentsIn s = numeral (take 4 (drop 4 s))
+dependentsIn s = numeral (take 4 (drop dependentsAt s))
 
 -- what is asked of the bytes before the record, part by part
 record Front (s : List ℕ) : Type 0 where
@@ -73,17 +73,17 @@ module _ (s : List ℕ) (at : ℕ) (room : at + 4 ≤ length s) (byte : Bytes s)
 
 -- A slot has these bytes if its fields are in them.
 slot-back : (e : List ℕ) → length e ≡ slotBytes → Bytes e → (t : Slot) → stateNumber (t .state) ≡ getD e 0 0
-    → zeros (take 3 (drop 1 e)) ≡ true → t .dependents ≡ dependentsIn e → padded 1040 (encode (t .loss)) ≡ drop 8 e → encodeSlot t ≡ e
+    → zeros (take 3 (drop 1 e)) ≡ true → t .dependents ≡ dependentsIn e → padded recordBytes (encode (t .loss)) ≡ drop lossAt e → encodeSlot t ≡ e
 unfolding encodeSlot
 slot-back e size byte t state blank dep rest =
     let a : bytes 1 (stateNumber (t .state)) ≡ getD e 0 0 ∷ [] = first-byte (t .state) ∙ ap (λ (v : ℕ). v ∷ []) state in
     let l₁ = length-drop 1 e in
     let n₃ : length (take 3 (drop 1 e)) ≡ 3 = length-take-le 3 (drop 1 e) (omega arith) in
     let p₃ : take 3 (drop 1 e) ≡ replicate 3 0 = zeros-replicate (take 3 (drop 1 e)) blank ∙ ap (λ (k : ℕ). replicate k 0) n₃ in
-    let p₄ : bytes 4 (t .dependents) ≡ take 4 (drop 4 e) = ap (bytes 4) dep ∙ number-back 4 4 e (omega arith) byte in
-    let d₄ : take 4 (drop 4 e) ++ drop 8 e ≡ drop 4 e =
-    ap (λ (r : List ℕ). take 4 (drop 4 e) ++ r) (sym (drop-drop 4 4 e)) ∙ take-append-drop 4 (drop 4 e) in
-    let d₁ : take 3 (drop 1 e) ++ drop 4 e ≡ drop 1 e =
+    let p₄ : bytes 4 (t .dependents) ≡ take 4 (drop dependentsAt e) = ap (bytes 4) dep ∙ number-back 4 dependentsAt e (omega arith) byte in
+    let d₄ : take 4 (drop dependentsAt e) ++ drop lossAt e ≡ drop dependentsAt e =
+    ap (λ (r : List ℕ). take 4 (drop dependentsAt e) ++ r) (sym (drop-drop 4 dependentsAt e)) ∙ take-append-drop 4 (drop dependentsAt e) in
+    let d₁ : take 3 (drop 1 e) ++ drop dependentsAt e ≡ drop 1 e =
     ap (λ (r : List ℕ). take 3 (drop 1 e) ++ r) (sym (drop-drop 3 1 e)) ∙ take-append-drop 3 (drop 1 e) in
     let join : List ℕ → List ℕ → List ℕ = λ x y. x ++ y in
     ap₂ join a (ap₂ join (sym p₃) (ap₂ join p₄ rest ∙ d₄) ∙ d₁) ∙ sym (drop-cons e 0 0 (omega arith))
@@ -112,24 +112,24 @@ pub record Used (n b : ℕ) (e : List ℕ) (sequence : ℕ) (waits : Bool) : Typ
 
 module _ (n b : ℕ) (e : List ℕ) (size : length e ≡ slotBytes) (byte : Bytes e) where
   -- A front that passes, a record that fits, and zeros make a good slot.
-  parts-used : Front e → (w : Whole) → recordAt e 8 ≡ RecordIs w → fitsWhole n b e w ≡ true → zeros (drop (w .next) e) ≡ true
+  parts-used : Front e → (w : Whole) → recordAt e lossAt ≡ RecordIs w → fitsWhole n b e w ≡ true → zeros (drop (w .next) e) ≡ true
       → Used n b e (w .head .sequence) (eqb (getD e 0 0) 1)
   unfolding wholeOf
   parts-used f w read fit blank =
-      let g = record-sound e byte 8 w read in
+      let g = record-sound e byte lossAt w read in
       let r = g .found in
       let d = dependentsIn e in
       let slot : Slot = record { state = f .state; dependents = d; loss = r } in
-      let l : length (drop (w .next) e) ≡ 1040 - length (encode r) = length-drop (w .next) e ∙ omega (arith, g .spans .after) in
-      let rest : padded 1040 (encode r) ≡ drop 8 e =
+      let l : length (drop (w .next) e) ≡ recordBytes - length (encode r) = length-drop (w .next) e ∙ omega (arith, g .spans .after) in
+      let rest : padded recordBytes (encode r) ≡ drop lossAt e =
       sym (g .spans .begins ∙ ap (λ (t : List ℕ). encode r ++ t) (zeros-replicate (drop (w .next) e) blank ∙ ap (λ (k : ℕ). replicate k 0) l)) in
       record {
         slot = slot;
         good =
             record {
               sound = g .good;
-              fit = found-fits n b e byte 8 w r (drop (w .next) e) read (g .good) (g .spans .begins) ∙ fit;
-              small = four-below e 4 (omega arith) byte;
+              fit = found-fits n b e byte lossAt w r (drop (w .next) e) read (g .good) (g .spans .begins) ∙ fit;
+              small = four-below e dependentsAt (omega arith) byte;
               none-if-lost = f .none-if-lost;
             };
         stored = slot-back e size byte slot (f .told) (f .blank) refl rest;
@@ -142,7 +142,7 @@ module _ (n b : ℕ) (e : List ℕ) (size : length e ≡ slotBytes) (byte : Byte
   unfolding slotForm
   form-used q w h = front (frontFormed e) refl h
     where
-      tests : Front e → (x : Whole) → recordAt e 8 ≡ RecordIs x → (t : Bool) → (fitsWhole n b e x && zeros (drop (x .next) e)) ≡ t
+      tests : Front e → (x : Whole) → recordAt e lossAt ≡ RecordIs x → (t : Bool) → (fitsWhole n b e x && zeros (drop (x .next) e)) ≡ t
           → cond t (Is (x .head .sequence) (eqb (getD e 0 0) 1)) Bad ≡ Is q w → Used n b e q w
       tests f x read true p d =
           let y = and-eq-true-iff (fitsWhole n b e x) (zeros (drop (x .next) e)) .0 p in
@@ -151,12 +151,12 @@ module _ (n b : ℕ) (e : List ℕ) (size : length e ≡ slotBytes) (byte : Byte
           rw (← a, ← c) (parts-used f x read (y .0) (y .1))
       tests f x read false p d = let z : _≡_ {A = ℕ} 0 1 = cc in absurd (omega arith)
 
-      reading : Front e → (x : Reading) → recordAt e 8 ≡ x → formBy n b e x ≡ Is q w → Used n b e q w
+      reading : Front e → (x : Reading) → recordAt e lossAt ≡ x → formBy n b e x ≡ Is q w → Used n b e q w
       reading f (RecordIs x) read d = tests f x read (fitsWhole n b e x && zeros (drop (x .next) e)) refl d
       reading f NoRecord read d = let z : _≡_ {A = ℕ} 0 1 = cc in absurd (omega arith)
 
-      front : (t : Bool) → frontFormed e ≡ t → cond t (formBy n b e (recordAt e 8)) Bad ≡ Is q w → Used n b e q w
-      front true p d = reading (front-inv e p) (recordAt e 8) refl d
+      front : (t : Bool) → frontFormed e ≡ t → cond t (formBy n b e (recordAt e lossAt)) Bad ≡ Is q w → Used n b e q w
+      front true p d = reading (front-inv e p) (recordAt e lossAt) refl d
       front false p d = let z : _≡_ {A = ℕ} 0 1 = cc in absurd (omega arith)
 
 -- A good slot's bytes begin as the test asks.
@@ -170,7 +170,7 @@ front-good s h = go (s .state) h
     go lost h = rw (eqb-true (s .dependents) 0 h)
 
 -- The record of a slot stands behind its front.
-slot-begins : (s : Slot) → drop 8 (encodeSlot s) ≡ padded 1040 (encode (s .loss))
+slot-begins : (s : Slot) → drop lossAt (encodeSlot s) ≡ padded recordBytes (encode (s .loss))
 unfolding encodeSlot bytes
 slot-begins s = refl
 
@@ -189,14 +189,14 @@ unfolding slotForm wholeOf
 used-form n b s g byte =
     let e = encodeSlot s in
     let r = s .loss in
-    let k = 1040 - length (encode r) in
-    let w = wholeOf r 8 in
-    let read : recordAt e 8 ≡ RecordIs w = record-complete e 8 r (replicate k 0) (g .sound) (slot-begins s) in
-    let fit : fitsWhole n b e w ≡ true = sym (found-fits n b e byte 8 w r (replicate k 0) read (g .sound) (slot-begins s)) ∙ g .fit in
-    let behind : drop (8 + length (encode r)) e ≡ replicate k 0 =
-    sym (drop-drop (length (encode r)) 8 e) ∙ ap (drop (length (encode r))) (slot-begins s) ∙ drop-append-seam (encode r) (replicate k 0) in
+    let k = recordBytes - length (encode r) in
+    let w = wholeOf r lossAt in
+    let read : recordAt e lossAt ≡ RecordIs w = record-complete e lossAt r (replicate k 0) (g .sound) (slot-begins s) in
+    let fit : fitsWhole n b e w ≡ true = sym (found-fits n b e byte lossAt w r (replicate k 0) read (g .sound) (slot-begins s)) ∙ g .fit in
+    let behind : drop (lossAt + length (encode r)) e ≡ replicate k 0 =
+    sym (drop-drop (length (encode r)) lossAt e) ∙ ap (drop (length (encode r))) (slot-begins s) ∙ drop-append-seam (encode r) (replicate k 0) in
     let blank : zeros (drop (w .next) e) ≡ true = ap zeros behind ∙ replicate-zeros k in
-    ap (λ (t : Bool). cond t (formBy n b e (recordAt e 8)) Bad) (front-good s (g .none-if-lost))
+    ap (λ (t : Bool). cond t (formBy n b e (recordAt e lossAt)) Bad) (front-good s (g .none-if-lost))
     ∙ ap (formBy n b e) read
     ∙ ap (λ (t : Bool). cond t (Is (r .sequence) (eqb (getD e 0 0) 1)) Bad) (and-eq-true-iff _ _ .1 (fit, blank))
     ∙ ap (λ (v : ℕ). Is (r .sequence) (eqb v 1)) (slot-first s)

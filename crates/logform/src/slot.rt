@@ -10,6 +10,7 @@ use buffer::zero::all_zero;
 use reader::Reading;
 use reader::fit::fits;
 use reader::read_record;
+use slots::DEPENDENTS_AT;
 use slots::LOSS_AT;
 use slots::LOST;
 use slots::WAITING;
@@ -25,13 +26,13 @@ fn front_formed(e: &[u8]) -> bool
     requires { ⌜ length (now e) ≡ slotBytes ⌝ }
     ensures { λ r. ⌜ r ≡ frontFormed (now (e .entry)) ⌝ }
 {
-    if all_zero(&e[1..4]) {
+    if all_zero(&e[1..DEPENDENTS_AT]) {
         let state = byte_at(e, 0);
         if state == WAITING {
             return true;
         }
         if state == LOST {
-            return four_at(e, 4) == 0;
+            return four_at(e, DEPENDENTS_AT) == 0;
         }
     }
     false

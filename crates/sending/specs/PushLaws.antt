@@ -8,7 +8,7 @@ use lib.ListN.{length, take, drop, replicate, length-append, length-drop}
 use lib.Seq.{length-take-le}
 use Rattle.search.specs.Volume.{Volume}
 use Rattle.log.specs.Slot.{Slot, Log, isWaiting, sequenceOf}
-use Rattle.log.specs.Stored.{encodeSlots, encodeLog, readLog}
+use Rattle.log.specs.Stored.{headBytes, slotBytes, encodeSlots, encodeLog, readLog}
 use Rattle.log.specs.Change.{sent}
 use Rattle.log.specs.Sends.{sentAll}
 use Rattle.log.specs.GeometryLaws.{good-take, good-drop, good-both, used-good}
@@ -28,27 +28,27 @@ one-fewer l i h =
 module _ (n b m : ℕ) (s : List ℕ) (u : Logged n b m s) (k : ℕ) (e : k ≡ usedIn m s) where
   -- With the slot of a waiting operation closed up its operation is sent.
   pub slot-sent : (i : ℕ) → i < usedIn m s → isWaiting (slotAt (readLog m s .slots) i) ≡ true → (x : List ℕ)
-      → x ≡ encodeSlots (take i (slotsIn (take (8 + k * 1048 - 8) (drop 8 s))) ++ drop (i + 1) (slotsIn (take (8 + k * 1048 - 8) (drop 8 s)))) ++ replicate 1048 0
-      → take 8 s ++ (x ++ drop (8 + k * 1048 - 8) (drop 8 s)) ≡ encodeLog m (sent (sequenceOf (slotAt (readLog m s .slots) i)) (readLog m s))
+      → x ≡ encodeSlots (take i (slotsIn (take (headBytes + k * slotBytes - headBytes) (drop headBytes s))) ++ drop (i + 1) (slotsIn (take (headBytes + k * slotBytes - headBytes) (drop headBytes s)))) ++ replicate slotBytes 0
+      → take headBytes s ++ (x ++ drop (headBytes + k * slotBytes - headBytes) (drop headBytes s)) ≡ encodeLog m (sent (sequenceOf (slotAt (readLog m s .slots) i)) (readLog m s))
   slot-sent i h w x q =
       let l = readLog m s in
       let j = take i (l .slots) ++ drop (i + 1) (l .slots) in
       let g = used-good n b m s u in
-      used-fewer n b m s u k e x j 1 (q ∙ ap (λ (y : List Slot). encodeSlots (take i y ++ drop (i + 1) y) ++ replicate 1048 0) (lent-slots n b m s u k e))
+      used-fewer n b m s u k e x j 1 (q ∙ ap (λ (y : List Slot). encodeSlots (take i y ++ drop (i + 1) y) ++ replicate slotBytes 0) (lent-slots n b m s u k e))
       (good-both n b (take i (l .slots)) (drop (i + 1) (l .slots)) (good-take n b i (l .slots) g) (good-drop n b (i + 1) (l .slots) g)) (one-fewer (l .slots) i h)
       ∙ ap (encodeLog m) (sym (sent-at n b m l i (u .form) h w))
 
   -- With the slots of a set of waiting operations closed up these are sent.
   pub slots-sent : (fs : List ℕ) → AllWait fs (readLog m s .slots) → (x : List ℕ)
-      → x ≡ encodeSlots (kept fs (slotsIn (take (8 + k * 1048 - 8) (drop 8 s))))
-      ++ replicate ((length (slotsIn (take (8 + k * 1048 - 8) (drop 8 s))) - length (kept fs (slotsIn (take (8 + k * 1048 - 8) (drop 8 s))))) * 1048) 0
-      → take 8 s ++ (x ++ drop (8 + k * 1048 - 8) (drop 8 s)) ≡ encodeLog m (sentAll (chosen fs (readLog m s .slots)) (readLog m s))
+      → x ≡ encodeSlots (kept fs (slotsIn (take (headBytes + k * slotBytes - headBytes) (drop headBytes s))))
+      ++ replicate ((length (slotsIn (take (headBytes + k * slotBytes - headBytes) (drop headBytes s))) - length (kept fs (slotsIn (take (headBytes + k * slotBytes - headBytes) (drop headBytes s))))) * slotBytes) 0
+      → take headBytes s ++ (x ++ drop (headBytes + k * slotBytes - headBytes) (drop headBytes s)) ≡ encodeLog m (sentAll (chosen fs (readLog m s .slots)) (readLog m s))
   slots-sent fs w x q =
       let l = readLog m s in
       let j = kept fs (l .slots) in
       let z = length (l .slots) - length j in
       let c = kept-most fs (l .slots) in
-      used-fewer n b m s u k e x j z (q ∙ ap (λ (y : List Slot). encodeSlots (kept fs y) ++ replicate ((length y - length (kept fs y)) * 1048) 0) (lent-slots n b m s u k e))
+      used-fewer n b m s u k e x j z (q ∙ ap (λ (y : List Slot). encodeSlots (kept fs y) ++ replicate ((length y - length (kept fs y)) * slotBytes) 0) (lent-slots n b m s u k e))
       (kept-good n b fs (l .slots) (used-good n b m s u)) (omega arith)
       ∙ ap (encodeLog m) (sym (sent-kept l (formed-rising n b m l (u .form)) fs w))
 

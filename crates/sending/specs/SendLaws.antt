@@ -25,6 +25,7 @@ use Rattle.applies.specs.ApplyLaws.{apply-good}
 use Rattle.applies.specs.Code.Held.{Fitting}
 use Rattle.applies.specs.HeldLaws.{held-there, held-found, held-fitting}
 use Rattle.log.specs.Slot.{Slot, goodSlots}
+use Rattle.log.specs.Stored.{recordBytes}
 use Rattle.log.specs.SlotLaws.{GoodSlot, slots-inv}
 use Rattle.log.specs.GeometryLaws.{good-at}
 use Rattle.log.specs.Code.Slots.{slotAt}
@@ -32,7 +33,7 @@ use Rattle.log.specs.Sends.{applying, applyAll}
 use Rattle.log.specs.Code.Flags.{chosen}
 use Rattle.sending.specs.Code.Sends.{Sent, SentFound, sendable}
 
-module _ (n b : ℕ) (l : List Slot) (allGood : goodSlots n b l ≡ true) (i : ℕ) (h : i < length l) (t : List ℕ) (e : t ≡ padded 1040 (encode (slotAt l i .loss))) where
+module _ (n b : ℕ) (l : List Slot) (allGood : goodSlots n b l ≡ true) (i : ℕ) (h : i < length l) (t : List ℕ) (e : t ≡ padded recordBytes (encode (slotAt l i .loss))) where
   -- A slot's record is the one that the reader finds in its bytes.
   good : GoodSlot n b (slotAt l i)
   good = good-at n b l i allGood h

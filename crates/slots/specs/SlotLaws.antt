@@ -19,21 +19,21 @@ use Rattle.records.specs.RecordLaws.{valid-inv}
 use Rattle.entry.specs.Stored.{padded}
 use Rattle.entry.specs.WriteLaws.{patch-behind, patch-first, patch-inside}
 use Rattle.log.specs.Slot.{State, waiting, lost, stateNumber, Slot, withState, withDependents, isWaiting, sequenceOf, goodSlots}
-use Rattle.log.specs.Stored.{slotBytes, encodeSlot, encodeSlots}
+use Rattle.log.specs.Stored.{slotBytes, dependentsAt, lossAt, recordBytes, encodeSlot, encodeSlots}
 use Rattle.log.specs.SlotLaws.{GoodSlot, slots-inv}
 use Rattle.log.specs.StoredLaws.{length-slot, slot-state}
 use Rattle.log.specs.GeometryLaws.{good-at, slotted-length, slot-stored, slot-set}
 use Rattle.log.specs.Code.Slots.{slotsIn, slotPart, slotAt, Slotted}
 
 -- Each slot lies wholly in the bytes of used slots.
-pub slot-room : (s : List ℕ) → Slotted s → (i : ℕ) → i < length (slotsIn s) → i * 1048 + 1048 ≤ length s
+pub slot-room : (s : List ℕ) → Slotted s → (i : ℕ) → i < length (slotsIn s) → i * slotBytes + slotBytes ≤ length s
 slot-room s h i l = omega (arith, slotted-length s h)
 
 -- A slot of bytes of used slots has a valid record, and its bytes are so many.
 pub loss-valid : (s : List ℕ) → Slotted s → (i : ℕ) → i < length (slotsIn s) → valid (slotAt (slotsIn s) i .loss) ≡ true
 loss-valid s h i l = good-at 256 64 (slotsIn s) i (h .good) l .sound
 
-pub slot-long : (s : List ℕ) → Slotted s → (i : ℕ) → i < length (slotsIn s) → length (encodeSlot (slotAt (slotsIn s) i)) ≡ 1048
+pub slot-long : (s : List ℕ) → Slotted s → (i : ℕ) → i < length (slotsIn s) → length (encodeSlot (slotAt (slotsIn s) i)) ≡ slotBytes
 slot-long s h i l = length-slot (slotAt (slotsIn s) i) (loss-valid s h i l)
 
 -- A valid record's sequence number and program are within their limits.
@@ -53,30 +53,30 @@ state-held s = ap (λ (k : ℕ). eqb k 1) (slot-state s) ∙ go (s .state)
     go waiting = refl
     go lost = refl
 
-pub loss-held : (s : Slot) → drop 8 (encodeSlot s) ≡ padded 1040 (encode (s .loss))
+pub loss-held : (s : Slot) → drop lossAt (encodeSlot s) ≡ padded recordBytes (encode (s .loss))
 unfolding encodeSlot bytes
 loss-held s = refl
 
-pub sequence-held : (s : Slot) → valid (s .loss) ≡ true → numeral (take 4 (drop 10 (encodeSlot s))) ≡ sequenceOf s
+pub sequence-held : (s : Slot) → valid (s .loss) ≡ true → numeral (take 4 (drop (lossAt + 2) (encodeSlot s))) ≡ sequenceOf s
 unfolding encodeSlot bytes encode headBytes
 sequence-held s h = numeral-bytes 4 (s .loss .sequence) (omega (arith, head-limits (s .loss) h .0))
 
-pub program-held : (s : Slot) → valid (s .loss) ≡ true → getD (encodeSlot s) 14 0 ≡ s .loss .program
+pub program-held : (s : Slot) → valid (s .loss) ≡ true → getD (encodeSlot s) (lossAt + 6) 0 ≡ s .loss .program
 unfolding encodeSlot bytes encode headBytes
 program-held s h = omega (arith, head-limits (s .loss) h .1)
 
 -- A put inside a slot is a change of that slot, if its bytes become those of another.
-pub slot-put : (s : List ℕ) → Slotted s → (i : ℕ) → i < length (slotsIn s) → (off : ℕ) (u : List ℕ) (t : Slot) → off + length u ≤ 1048
+pub slot-put : (s : List ℕ) → Slotted s → (i : ℕ) → i < length (slotsIn s) → (off : ℕ) (u : List ℕ) (t : Slot) → off + length u ≤ slotBytes
     → valid (t .loss) ≡ true → patch (encodeSlot (slotAt (slotsIn s) i)) off u ≡ encodeSlot t
-    → patch s (i * 1048 + off) u ≡ encodeSlots (set (slotsIn s) i t)
+    → patch s (i * slotBytes + off) u ≡ encodeSlots (set (slotsIn s) i t)
 slot-put s h i l off u t k v e =
-    patch-inside s (i * 1048) 1048 off u k (slot-room s h i l)
-    ∙ ap (λ (x : List ℕ). patch s (i * 1048) (patch x off u)) (slot-stored s h i l)
-    ∙ ap (patch s (i * 1048)) e
+    patch-inside s (i * slotBytes) slotBytes off u k (slot-room s h i l)
+    ∙ ap (λ (x : List ℕ). patch s (i * slotBytes) (patch x off u)) (slot-stored s h i l)
+    ∙ ap (patch s (i * slotBytes)) e
     ∙ slot-set s h i l t (length-slot t v)
 
--- Other dependents, by a put of 4 bytes behind the state; and a lost one, by a put of all 8.
-pub dependents-put : (d : ℕ) (s : Slot) → patch (encodeSlot s) 4 (bytes 4 d) ≡ encodeSlot (withDependents d s)
+-- Other dependents, by a put of 4 bytes behind the state; and a lost one, by a put of the state and the dependents.
+pub dependents-put : (d : ℕ) (s : Slot) → patch (encodeSlot s) dependentsAt (bytes 4 d) ≡ encodeSlot (withDependents d s)
 unfolding encodeSlot bytes patch
 dependents-put d s = refl
 

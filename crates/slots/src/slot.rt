@@ -5,7 +5,7 @@ ghost use lib.ListN.{length, set};
 ghost use Rattle.records.specs.Fields.{encode};
 ghost use Rattle.entry.specs.Stored.{padded};
 ghost use Rattle.log.specs.Slot.{lost, withState, withDependents, isWaiting, sequenceOf};
-ghost use Rattle.log.specs.Stored.{encodeSlot, encodeSlots};
+ghost use Rattle.log.specs.Stored.{slotBytes, recordBytes, encodeSlot, encodeSlots};
 ghost use Rattle.log.specs.Code.Slots.{slotsIn, slotAt, Slotted};
 use crate::DEPENDENTS_AT;
 use crate::LOSS_AT;
@@ -20,7 +20,7 @@ use buffer::put::put_four;
 pub fn slot(s: &[u8], i: usize) -> &[u8]
     requires { ⌜ Slotted (now s) ⌝ }
     requires { ⌜ i < length (slotsIn (now s)) ⌝ }
-    ensures { λ r. ⌜ (now r ≡ encodeSlot (slotAt (slotsIn (now (s .entry))) i)) × (length (now r) ≡ 1048) ⌝ }
+    ensures { λ r. ⌜ (now r ≡ encodeSlot (slotAt (slotsIn (now (s .entry))) i)) × (length (now r) ≡ slotBytes) ⌝ }
 {
     let at = i * SLOT;
     let end = at + SLOT;
@@ -31,7 +31,7 @@ pub fn slot(s: &[u8], i: usize) -> &[u8]
 pub fn loss(s: &[u8], i: usize) -> &[u8]
     requires { ⌜ Slotted (now s) ⌝ }
     requires { ⌜ i < length (slotsIn (now s)) ⌝ }
-    ensures { λ r. ⌜ (now r ≡ padded 1040 (encode (slotAt (slotsIn (now (s .entry))) i .loss))) × (length (now r) ≡ 1040) ⌝ }
+    ensures { λ r. ⌜ (now r ≡ padded recordBytes (encode (slotAt (slotsIn (now (s .entry))) i .loss))) × (length (now r) ≡ recordBytes) ⌝ }
 {
     let e = slot(s, i);
     &e[LOSS_AT..]

@@ -6,16 +6,17 @@ use native.Mathlib.Omega.{arith}
 use lib.ListN.{length, drop, length-set}
 use lib.Seq.{paste, paste-zero}
 use borrow.Author.Needs.{needs}
+use Rattle.log.specs.Stored.{slotBytes}
 use Rattle.closing.specs.MoveLaws.{move-on, slot-moved, slot-stays}
 use Rattle.closing.proofs.move_slot.Statement.{statement}
 use Rattle.closing.proofs.move_slot.Tie as tie
 
 abbrev Inv-loop : tie.InvT-loop
 Inv-loop s₀ from to source target i₀ s i =
-    (i ≤ 1048) × (s ≡ paste s₀ (to * 1048) (drop (from * 1048) s₀) i) × (length s ≡ length s₀)
+    (i ≤ slotBytes) × (s ≡ paste s₀ (to * slotBytes) (drop (from * slotBytes) s₀) i) × (length s ≡ length s₀)
 
 abbrev μ-loop : tie.MeasureT-loop
-μ-loop s₀ from to source target i₀ s i = 1048 - i
+μ-loop s₀ from to source target i₀ s i = slotBytes - i
 
 returns : tie.Need-returns Inv-loop μ-loop
 returns c =
@@ -31,7 +32,7 @@ mul-target c = search needs
 loop-holds : tie.Need-loop-holds Inv-loop μ-loop
 loop-holds c =
     let a = c .before .args in
-    (omega arith, paste-zero (a .s .now) (a .to * 1048) (drop (a .from * 1048) (a .s .now)), refl)
+    (omega arith, paste-zero (a .s .now) (a .to * slotBytes) (drop (a .from * slotBytes) (a .s .now)), refl)
 
 add-s : tie.Need-add-s Inv-loop μ-loop
 add-s c = search needs
@@ -56,7 +57,7 @@ loop-again c =
     let g = c .before .before in
     let a = g .before .before .args in (
       omega arith,
-      move-on (a .s .now) (a .to * 1048) (a .from * 1048) (g .loop .s) (g .loop .i) (g .loop .inv .1) (omega arith) (omega arith),
+      move-on (a .s .now) (a .to * slotBytes) (a .from * slotBytes) (g .loop .s) (g .loop .i) (g .loop .inv .1) (omega arith) (omega arith),
       simp length-set (g .loop .inv .2),
     )
 

@@ -3,7 +3,7 @@ use Prim.Native.Nat.{ℕ, _*_}
 use mathlib.Core.Path.{_≡_, sym, ap, _∙_, subst}
 use mathlib.Core.List.{List}
 use Rattle.log.specs.Slot.{Slot}
-use Rattle.log.specs.Stored.{encodeSlots, readLog}
+use Rattle.log.specs.Stored.{slotBytes, encodeSlots, readLog}
 use Rattle.log.specs.StoredLaws.{length-slots}
 use Rattle.log.specs.Depend.{noted}
 use Rattle.log.specs.ChangeLaws.{noted-good, noted-length}
@@ -55,7 +55,7 @@ returns c ops k =
     let e : z .note-slots .last .0 ≡ encodeSlots (noted (a .program) ops l) =
     z .note-slots .ensures ops k ∙ ap (λ (x : List Slot). encodeSlots (noted (a .program) ops x)) (ap slotsIn (used-lent 256 64 (a .m) s (t .pre .0) (y .used .result) u) ∙ used-slots 256 64 (a .m) s (t .pre .0)) in
     let w = length-slots 256 64 (noted (a .program) ops l) (noted-good 256 64 (a .program) ops l (t .pre .1 .0) (used-good 256 64 (a .m) s (t .pre .0))) in
-    used-back 256 64 (a .m) s (t .pre .0) (y .used .result) u (z .note-slots .last .0) (noted (a .program) ops l) e (w ∙ ap (λ (i : ℕ). i * 1048) (noted-length (a .program) ops l))
+    used-back 256 64 (a .m) s (t .pre .0) (y .used .result) u (z .note-slots .last .0) (noted (a .program) ops l) e (w ∙ ap (λ (i : ℕ). i * slotBytes) (noted-length (a .program) ops l))
 
 pub note-spec : {M : Type 1} → statement M
 note-spec =

@@ -5,7 +5,7 @@ use native.Mathlib.Omega.{arith}
 use mathlib.Core.Path.{_≡_, sym, ap, _∙_, subst}
 use mathlib.Core.List.{List}
 use lib.ListN.{length, drop}
-use Rattle.log.specs.Stored.{encodeSlots}
+use Rattle.log.specs.Stored.{slotBytes, encodeSlots}
 use Rattle.log.specs.Depend.{reach}
 use Rattle.log.specs.GeometryLaws.{slotted-length}
 use Rattle.log.specs.StoredLaws.{length-slots}
@@ -26,8 +26,8 @@ loop-holds : tie.Need-loop-holds Inv-loop μ-loop
 loop-holds c =
     let t = c .before in
     let a = t .args in
-    let e : length (a .s .now) / 1048 ≡ length (slotsIn (a .s .now)) = omega (arith, slotted-length (a .s .now) (t .pre .0)) in
-    (omega arith, λ ops k. let x = note-start (a .program) ops (a .s .now) (t .pre .0) (length (a .s .now) / 1048) e in (subst (Holds (a .reached .now)) (sym (x .0)) k, x .1))
+    let e : length (a .s .now) / slotBytes ≡ length (slotsIn (a .s .now)) = omega (arith, slotted-length (a .s .now) (t .pre .0)) in
+    (omega arith, λ ops k. let x = note-start (a .program) ops (a .s .now) (t .pre .0) (length (a .s .now) / slotBytes) e in (subst (Holds (a .reached .now)) (sym (x .0)) k, x .1))
 
 sub-i : tie.Need-sub-i Inv-loop μ-loop
 sub-i c = omega arith

@@ -9,7 +9,7 @@ use Rattle.records.specs.Operation.{Record}
 use Rattle.records.specs.Fields.{encode, valid, fits}
 use Rattle.entry.specs.Stored.{padded}
 use Rattle.log.specs.Slot.{Log, wellFormed}
-use Rattle.log.specs.Stored.{slotBytes, encodeSlots}
+use Rattle.log.specs.Stored.{slotBytes, lossAt, recordBytes, encodeSlots}
 
 -- the first bytes of a log
 abbrev pub head : Log → List ℕ
@@ -20,7 +20,7 @@ unfoldable pub drafted : ℕ → Log → Record → List ℕ
 drafted m l r =
     head l
     ++ (encodeSlots (l .slots)
-    ++ (replicate 8 0 ++ (padded 1040 (encode r) ++ replicate ((m - suc (length (l .slots))) * slotBytes) 0)))
+    ++ (replicate lossAt 0 ++ (padded recordBytes (encode r) ++ replicate ((m - suc (length (l .slots))) * slotBytes) 0)))
 
 -- the next record of a well-formed log with a free slot stands in it
 pub record Draft (n b m : ℕ) (s : List ℕ) (l : Log) (r : Record) : Type 0 where

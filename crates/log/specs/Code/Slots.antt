@@ -6,7 +6,7 @@ use mathlib.Core.Bool.{true}
 use lib.ListN.{length, getD, take, drop}
 use Rattle.records.specs.Operation.{forder, recordOf}
 use Rattle.log.specs.Slot.{lost, Slot, goodSlots, wellFormed}
-use Rattle.log.specs.Stored.{slotBytes, logBytes, encodeSlots, encodeLog, readSlots, readLog}
+use Rattle.log.specs.Stored.{headBytes, slotBytes, logBytes, encodeSlots, encodeLog, readSlots, readLog}
 
 -- the slots that the bytes of so many used slots tell of
 abbrev pub slotsIn : List ℕ → List Slot
@@ -44,4 +44,4 @@ usedIn m s = length (readLog m s .slots)
 
 -- the bytes of its used slots
 abbrev pub usedPart : ℕ → List ℕ → List ℕ
-usedPart m s = take (usedIn m s * slotBytes) (drop 8 s)
+usedPart m s = take (usedIn m s * slotBytes) (drop headBytes s)

@@ -10,7 +10,7 @@ use borrow.Author.Needs.{needs}
 use borrow.Author.Tests.{le-leb, lt-leb}
 use Rattle.buffer.specs.Numeral.{numeral, Bytes}
 use Rattle.entry.specs.TestLaws.{take-rest}
-use Rattle.log.specs.Stored.{slotBytes, lentLog, formedLog}
+use Rattle.log.specs.Stored.{headBytes, slotBytes, lentLog, formedLog}
 use Rattle.search.specs.AnswerLaws.{settled}
 use Rattle.logform.specs.Code.Checks.{slotsFormed, logFormed}
 use Rattle.logform.specs.ChecksLaws.{checks-log}
@@ -23,17 +23,17 @@ module _ (n b m : ℕ) (s : List ℕ) where
   unfolding formedLog
   not-lent t = rw t
 
-  slots-long : Lent n b m s → length (take (length s - 8) (drop 8 s)) ≡ m * slotBytes
-  slots-long l = ap length (take-rest 8 s) ∙ length-drop 8 s ∙ omega (arith, l .whole)
+  slots-long : Lent n b m s → length (take (length s - headBytes) (drop headBytes s)) ≡ m * slotBytes
+  slots-long l = ap length (take-rest headBytes s) ∙ length-drop headBytes s ∙ omega (arith, l .whole)
 
   module _ (next : ℕ) (e : next ≡ numeral (take 4 s)) where
     numberless : next < 1 → false ≡ logFormed n b m s
     unfolding logFormed
     numberless h = rw (← e, lt-leb 1 next h)
 
-    numbered : 1 ≤ next → (r : Bool) → r ≡ slotsFormed n b next m 0 false (take (length s - 8) (drop 8 s)) → r ≡ logFormed n b m s
+    numbered : 1 ≤ next → (r : Bool) → r ≡ slotsFormed n b next m 0 false (take (length s - headBytes) (drop headBytes s)) → r ≡ logFormed n b m s
     unfolding logFormed
-    numbered h r q = rw (← e, le-leb 1 next h) (q ∙ ap (slotsFormed n b next m 0 false) (take-rest 8 s))
+    numbered h r q = rw (← e, le-leb 1 next h) (q ∙ ap (slotsFormed n b next m 0 false) (take-rest headBytes s))
 
   -- what is lent as it should be is formed exactly if it passes the tests
   tested : lentLog n b m s ≡ true → Bytes s → (r : Bool) → r ≡ logFormed n b m s → r ≡ formedLog n b m s

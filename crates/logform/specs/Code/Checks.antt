@@ -11,14 +11,14 @@ use Rattle.reader.specs.declared.Reading.{Reading}
 use Rattle.reader.specs.declared.Reading.the-variants.{Is as RecordIs, Bad as NoRecord}
 use Rattle.reader.specs.Code.Reader.{recordAt}
 use Rattle.reader.specs.Code.Fit.{fitsWhole}
-use Rattle.log.specs.Stored.{headBytes, slotBytes, lossAt}
+use Rattle.log.specs.Stored.{headBytes, slotBytes, dependentsAt, lossAt}
 use Rattle.logform.specs.declared.slot.SlotForm.{SlotForm}
 use Rattle.logform.specs.declared.slot.SlotForm.the-variants.{Is, Bad}
 
 -- "state (1: .. 1 waiting, 2 lost), 3 zero bytes, dependents (4 ..; zero if lost)": the bytes of a used slot before its record
 unfoldable pub frontFormed : List ℕ → Bool
 frontFormed s =
-    zeros (take 3 (drop 1 s)) && (eqb (getD s 0 0) 1 || (eqb (getD s 0 0) 2 && eqb (numeral (take 4 (drop 4 s))) 0))
+    zeros (take 3 (drop 1 s)) && (eqb (getD s 0 0) 1 || (eqb (getD s 0 0) 2 && eqb (numeral (take 4 (drop dependentsAt s))) 0))
 
 -- the form of a slot by what the reader answered of its record: it fits n and b, and zeros stand behind it
 abbrev pub formBy : ℕ → ℕ → List ℕ → Reading → SlotForm

@@ -4,6 +4,7 @@ use borrow.Author.Needs.{needs}
 use native.Mathlib.Omega.{arith}
 use Prim.Native.Nat.{_/_}
 use lib.ListN.{length}
+use Rattle.log.specs.Stored.{slotBytes}
 use Rattle.log.specs.GeometryLaws.{slotted-length}
 use Rattle.log.specs.Code.Slots.{slotsIn}
 use Rattle.precede.specs.GatherLaws.{gathered-needed}
@@ -29,7 +30,7 @@ returns c =
     let a = g .args in
     let k = slotted-length (a .s .now) (g .pre .0) in
     let o = r .before .before .before in
-    gathered-needed (a .object) (slotsIn (a .s .now)) (g .pre .1 .1) (length (a .s .now) / 1048) (omega arith) (o .one .result) (a .found .now) _ _ (o .one .ensures) (r .gather .ensures)
+    gathered-needed (a .object) (slotsIn (a .s .now)) (g .pre .1 .1) (length (a .s .now) / slotBytes) (omega arith) (o .one .result) (a .found .now) _ _ (o .one .ensures) (r .gather .ensures)
 
 pub needed-spec : {M : Type 1} → statement M
 needed-spec = tie.close (tie.spec one-requires gather-requires same-length returns)

@@ -7,6 +7,7 @@ use mathlib.Core.Path.{_≡_, refl, sym, _∙_}
 use mathlib.Core.List.{List}
 use lib.ListN.{length}
 use Rattle.search.specs.Stored.{readVolume}
+use Rattle.log.specs.Stored.{slotBytes}
 use Rattle.log.specs.Code.Slots.{slotsIn, Slotted}
 use Rattle.log.specs.GeometryLaws.{slotted-length}
 use Rattle.sending.specs.TurnLaws.{Sending, sending-first, sending-next, sending-last}
@@ -14,7 +15,7 @@ use Rattle.sending.proofs.send_found.Statement.{statement}
 use Rattle.sending.proofs.send_found.Tie as tie
 
 -- a turn is that of a used slot
-used-slots : (s : List ℕ) → Slotted s → (i : ℕ) → i < length s / 1048 → i < length (slotsIn s)
+used-slots : (s : List ℕ) → Slotted s → (i : ℕ) → i < length s / slotBytes → i < length (slotsIn s)
 used-slots s u i h = omega (arith, slotted-length s u)
 
 abbrev Inv-loop : tie.InvT-loop

@@ -11,6 +11,7 @@ use borrow.Author.Tests.{eq-eqb, ne-eqb}
 use Rattle.buffer.specs.Numeral.{numeral}
 use Rattle.buffer.specs.Code.Zero.{zeros}
 use Rattle.search.specs.AnswerLaws.{settled}
+use Rattle.log.specs.Stored.{dependentsAt}
 use Rattle.logform.specs.Code.Checks.{frontFormed}
 use Rattle.logform.proofs.slot.front_formed.Statement.{statement}
 use Rattle.logform.proofs.slot.front_formed.Tie as tie
@@ -25,7 +26,7 @@ module _ (e : List ℕ) where
     unfolding frontFormed
     waits h = rw (z, ← told, eq-eqb state 1 h)
 
-    is-lost : (state ≡ 1 → ⊥) → state ≡ 2 → (d : ℕ) → d ≡ numeral (take 4 (drop 4 e)) → eqb d 0 ≡ frontFormed e
+    is-lost : (state ≡ 1 → ⊥) → state ≡ 2 → (d : ℕ) → d ≡ numeral (take 4 (drop dependentsAt e)) → eqb d 0 ≡ frontFormed e
     unfolding frontFormed
     is-lost w h d p = rw (z, ← told, ne-eqb state 1 w, eq-eqb state 2 h, p)
 

@@ -15,6 +15,7 @@ use Rattle.reader.specs.Code.Reader.{recordAt}
 use Rattle.reader.specs.Code.Fit.{fitsWhole}
 use Rattle.entry.specs.TestLaws.{take-rest}
 use Rattle.search.specs.AnswerLaws.{settled}
+use Rattle.log.specs.Stored.{lossAt}
 use Rattle.logform.specs.declared.slot.SlotForm.the-variants.{Is, Bad}
 use Rattle.logform.specs.Code.Checks.{frontFormed, slotForm}
 use Rattle.logform.specs.SlotLaws.{answered-within}
@@ -27,11 +28,11 @@ module _ (n b : ℕ) (e : List ℕ) where
   no-front f = rw f
 
   module _ (f : frontFormed e ≡ true) where
-    no-record : recordAt e 8 ≡ NoRecord → Bad ≡ slotForm n b e
+    no-record : recordAt e lossAt ≡ NoRecord → Bad ≡ slotForm n b e
     unfolding slotForm
     no-record r = rw (f, r)
 
-    module _ (w : Whole) (r : recordAt e 8 ≡ RecordIs w) where
+    module _ (w : Whole) (r : recordAt e lossAt ≡ RecordIs w) where
       unfit : fitsWhole n b e w ≡ false → Bad ≡ slotForm n b e
       unfolding slotForm
       unfit t = rw (f, r, t)
@@ -74,7 +75,7 @@ sub-all-zero c =
     let k = r .before .before .before in
     omega (
       arith,
-      answered-within (k .before .args .e .now) (λ i. k .shared-slice-known .given i .fits) 8 (w .w .given .0 .0) (omega arith)
+      answered-within (k .before .args .e .now) (λ i. k .shared-slice-known .given i .fits) lossAt (w .w .given .0 .0) (omega arith)
           (settled (r .read-record .ensures .0) (w .w .given .1)),
     )
 

@@ -4,6 +4,7 @@ use mathlib.Core.Path.{ap, _∙_}
 use mathlib.Core.List.{List}
 use lib.ListN.{take, drop}
 use Rattle.buffer.specs.Numeral.{numeral}
+use Rattle.log.specs.Stored.{dependentsAt}
 use Rattle.log.specs.StoredLaws.{slot-dependents}
 use Rattle.log.specs.Code.Slots.{slotsIn, slotAt}
 use Rattle.log.specs.GeometryLaws.{good-at}
@@ -22,7 +23,7 @@ returns c =
     let y = c .before in
     let t = y .before .before in
     let a = t .args in (
-      c .four-at .ensures .0 ∙ ap (λ (s : List ℕ). numeral (take 4 (drop 4 s))) (y .slot .ensures .0)
+      c .four-at .ensures .0 ∙ ap (λ (s : List ℕ). numeral (take 4 (drop dependentsAt s))) (y .slot .ensures .0)
           ∙ slot-dependents (slotAt (slotsIn (a .s .now)) (a .i)) (good-at 256 64 (slotsIn (a .s .now)) (a .i) (t .pre .0 .good) (t .pre .1) .small),
       c .four-at .ensures .1,
     )

@@ -1,8 +1,9 @@
 -- `slots::slot::program` meets its contract. Assumes nothing.
-use Prim.Native.Nat.{ℕ}
+use Prim.Native.Nat.{ℕ, _+_}
 use mathlib.Core.Path.{ap, _∙_}
 use mathlib.Core.List.{List}
 use lib.ListN.{getD}
+use Rattle.log.specs.Stored.{lossAt}
 use Rattle.log.specs.Code.Slots.{slotsIn, slotAt}
 use Rattle.slots.specs.SlotLaws.{program-held, loss-valid}
 use borrow.Author.Needs.{needs}
@@ -23,7 +24,7 @@ returns c =
     let y = c .before in
     let t = y .before .before in
     let a = t .args in
-    c .byte-at .ensures .0 ∙ ap (λ (s : List ℕ). getD s 14 0) (y .slot .ensures .0)
+    c .byte-at .ensures .0 ∙ ap (λ (s : List ℕ). getD s (lossAt + 6) 0) (y .slot .ensures .0)
     ∙ program-held (slotAt (slotsIn (a .s .now)) (a .i)) (loss-valid (a .s .now) (t .pre .0) (a .i) (t .pre .1))
 
 pub program-spec : {M : Type 1} → statement M

@@ -1,9 +1,10 @@
 -- `slots::slot::sequence` meets its contract. Assumes nothing.
-use Prim.Native.Nat.{ℕ}
+use Prim.Native.Nat.{ℕ, _+_}
 use mathlib.Core.Path.{ap, _∙_}
 use mathlib.Core.List.{List}
 use lib.ListN.{take, drop}
 use Rattle.buffer.specs.Numeral.{numeral}
+use Rattle.log.specs.Stored.{lossAt}
 use Rattle.log.specs.Code.Slots.{slotsIn, slotAt}
 use Rattle.slots.specs.SlotLaws.{sequence-held, loss-valid}
 use borrow.Author.Needs.{needs}
@@ -24,7 +25,7 @@ returns c =
     let y = c .before in
     let t = y .before .before in
     let a = t .args in
-    c .four-at .ensures .0 ∙ ap (λ (s : List ℕ). numeral (take 4 (drop 10 s))) (y .slot .ensures .0)
+    c .four-at .ensures .0 ∙ ap (λ (s : List ℕ). numeral (take 4 (drop (lossAt + 2) s))) (y .slot .ensures .0)
     ∙ sequence-held (slotAt (slotsIn (a .s .now)) (a .i)) (loss-valid (a .s .now) (t .pre .0) (a .i) (t .pre .1))
 
 pub sequence-spec : {M : Type 1} → statement M

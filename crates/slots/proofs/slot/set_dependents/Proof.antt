@@ -4,6 +4,7 @@ use mathlib.Core.Path.{_∙_}
 use Rattle.buffer.specs.Numeral.{bytes}
 use Rattle.buffer.specs.NumeralLaws.{length-bytes}
 use Rattle.log.specs.Slot.{withDependents}
+use Rattle.log.specs.Stored.{dependentsAt}
 use Rattle.log.specs.Code.Slots.{slotsIn, slotAt}
 use Rattle.slots.specs.SlotLaws.{slot-room, slot-put, dependents-put, loss-valid}
 use borrow.Author.Needs.{needs}
@@ -29,7 +30,7 @@ returns c =
     let a = t .args in
     let x = slotAt (slotsIn (a .s .now)) (a .i) in
     z .put-four .ensures .placed
-    ∙ slot-put (a .s .now) (t .pre .0) (a .i) (t .pre .1) 4 (bytes 4 (a .d)) (withDependents (a .d) x) (omega (arith, length-bytes 4 (a .d)))
+    ∙ slot-put (a .s .now) (t .pre .0) (a .i) (t .pre .1) dependentsAt (bytes 4 (a .d)) (withDependents (a .d) x) (omega (arith, length-bytes 4 (a .d)))
     (loss-valid (a .s .now) (t .pre .0) (a .i) (t .pre .1)) (dependents-put (a .d) x)
 
 pub set-dependents-spec : {M : Type 1} → statement M

@@ -10,6 +10,7 @@ use Rattle.buffer.specs.Numeral.{bytes}
 use Rattle.buffer.specs.NumeralLaws.{length-bytes}
 use Rattle.buffer.specs.PatchLaws.{put-then, put-end}
 use Rattle.log.specs.Slot.{lost, withState, withDependents}
+use Rattle.log.specs.Stored.{slotBytes}
 use Rattle.log.specs.Code.Slots.{slotsIn, slotAt}
 use Rattle.slots.specs.SlotLaws.{slot-room, slot-put, lost-put, loss-valid}
 use borrow.Author.Needs.{needs}
@@ -39,7 +40,7 @@ returns c =
     let a = t .args in
     let x = slotAt (slotsIn (a .s .now)) (a .i) in
     put-then (z .put-four .ensures) (y .put-four2 .ensures) .placed
-    ∙ ap (λ (k : ℕ). patch (a .s .now) k (bytes 4 2 ++ bytes 4 0)) (sym (add-zero (a .i * 1048)))
+    ∙ ap (λ (k : ℕ). patch (a .s .now) k (bytes 4 2 ++ bytes 4 0)) (sym (add-zero (a .i * slotBytes)))
     ∙ slot-put (a .s .now) (t .pre .0) (a .i) (t .pre .1) 0 (bytes 4 2 ++ bytes 4 0) (withState lost (withDependents 0 x)) (rw (length-append) (omega (arith, length-bytes 4 2, length-bytes 4 0)))
     (loss-valid (a .s .now) (t .pre .0) (a .i) (t .pre .1)) (lost-put x)
 

@@ -5,6 +5,7 @@ use mathlib.Core.Path.{_≡_, ap, _∙_}
 use native.Mathlib.Nat.{add-sub-cancel-left}
 use native.Mathlib.Omega.{arith}
 use lib.ListN.{length, take, drop}
+use Rattle.log.specs.Stored.{slotBytes}
 use Rattle.log.specs.GeometryLaws.{slot-stored}
 use Rattle.slots.specs.SlotLaws.{slot-room, slot-long}
 use borrow.Author.Needs.{needs}
@@ -30,7 +31,7 @@ returns : tie.Need-returns
 returns c =
     let t = c .before in
     let a = t .args in
-    let e = ap (λ (k : ℕ). take k (drop (a .i * 1048) (a .s .now))) (add-sub-cancel-left (a .i * 1048) 1048) ∙ slot-stored (a .s .now) (t .pre .0) (a .i) (t .pre .1) in
+    let e = ap (λ (k : ℕ). take k (drop (a .i * slotBytes) (a .s .now))) (add-sub-cancel-left (a .i * slotBytes) slotBytes) ∙ slot-stored (a .s .now) (t .pre .0) (a .i) (t .pre .1) in
     (e, ap length e ∙ slot-long (a .s .now) (t .pre .0) (a .i) (t .pre .1))
 
 pub slot-spec : {M : Type 1} → statement M
