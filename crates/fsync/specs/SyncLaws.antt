@@ -1,7 +1,7 @@
 -- What the counted sends of an fsync come to. Assumes nothing.
-use Prim.Native.Nat.{ℕ, suc, _+_, _≤_, _<_, min}
+use Prim.Native.Nat.{ℕ, suc, _≤_, _<_, min}
 use native.Mathlib.Omega.{arith}
-use mathlib.Core.Path.{_≡_, refl, sym, ap, ap₂, _∙_, subst}
+use mathlib.Core.Path.{_≡_, sym, ap, _∙_, subst}
 use mathlib.Core.List.{List, [], _∷_}
 use mathlib.Core.Bool.{Bool, true, false, cond}
 use lib.ListN.{length, take, length-take}
@@ -25,7 +25,7 @@ use Rattle.log.specs.Code.Flags.{chosen, kept, AllWait}
 use Rattle.sending.specs.Code.Sends.{SentFound}
 use Rattle.fsync.specs.declared.Synced.{Synced}
 use Rattle.fsync.specs.declared.Synced.the-variants.{Sent, Stopped, Lost}
-use Rattle.fsync.specs.Code.Synced.{neededIn, syncedOf, sends, syncedLog, SyncedBy}
+use Rattle.fsync.specs.Code.Synced.{neededIn, syncedOf, SyncedBy}
 
 -- At most all of some operations apply.
 applying-most : (rs : List Record) (v : Volume) → applying rs v ≤ length rs

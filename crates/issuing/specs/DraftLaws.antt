@@ -1,12 +1,11 @@
 -- A record put into the first free slot of a log, the parts of the bytes around it, and what issuing it leaves. Assumes nothing.
 use Prim.Native.Nat.{ℕ, suc, _+_, _*_, _-_, _≤_, _<_}
-use native.Mathlib.Nat.{add-zero}
 use native.Mathlib.Omega.{arith}
 use mathlib.Core.Path.{_≡_, refl, sym, ap, ap₂, _∙_, subst}
 use mathlib.Core.Bool.{true}
 use mathlib.Core.List.{List, [], _∷_, _++_, append-assoc, append-nil}
 use lib.ListN.{length, take, drop, replicate, length-append, length-drop, length-take, length-replicate, replicate-append-replicate}
-use lib.Seq.{take-at, drop-at, drop-append-add, take-append-add, drop-drop}
+use lib.Seq.{take-at, drop-at, drop-drop}
 use Rattle.buffer.specs.Numeral.{bytes, numeral}
 use Rattle.buffer.specs.NumeralLaws.{length-bytes, numeral-bytes}
 use Rattle.buffer.specs.Patch.{patch}
@@ -14,7 +13,7 @@ use Rattle.records.specs.Operation.{Operation, Record, recordOf, operands}
 use Rattle.records.specs.Fields.{encode, valid}
 use Rattle.records.specs.RecordLaws.{encode-length}
 use Rattle.entry.specs.Stored.{padded}
-use Rattle.entry.specs.WriteLaws.{patch-behind, patch-first, patch-between}
+use Rattle.entry.specs.WriteLaws.{patch-first, patch-between}
 use Rattle.log.specs.Programs.{with}
 use Rattle.log.specs.Slot.{Slot, Log}
 use Rattle.log.specs.Stored.{headBytes, slotBytes, lossAt, recordBytes, encodeSlot, encodeSlots, encodeLog, readLog}

@@ -9,7 +9,7 @@ use lib.Seq.{length-take-le, drop-cons, drop-drop, drop-append-seam}
 use lib.Dec.{eqb}
 use borrow.Author.Tests.{eqb-true}
 use Rattle.buffer.specs.Numeral.{bytes, numeral, Bytes}
-use Rattle.buffer.specs.NumeralLaws.{bytes-numeral, numeral-below, bytes-part}
+use Rattle.buffer.specs.NumeralLaws.{numeral-below, bytes-part}
 use Rattle.buffer.specs.Code.Zero.{zeros}
 use Rattle.buffer.specs.ZeroLaws.{zeros-replicate, replicate-zeros}
 use Rattle.records.specs.Operation.{Record}

@@ -16,10 +16,7 @@ use Rattle.records.specs.Operation.{Operation, createFile, makeDirectory, remov
 use Rattle.records.specs.Fields.{standsIn, numberIf, field, ifStands, between, allUpTo, different, validList, validObjects, validRange, valid, encode, objectsOf}
 use Rattle.records.specs.RecordLaws.{block-short, list-short}
 use Rattle.reader.specs.declared.Place.{Place}
-use Rattle.reader.specs.declared.Field.{Field}
-use Rattle.reader.specs.declared.Field.the-variants.{Number, Bad as NoField}
-use Rattle.reader.specs.declared.Stretch.{Stretch}
-use Rattle.reader.specs.declared.Stretch.the-variants.{Part, Bad as NoPart}
+use Rattle.reader.specs.declared.Field.the-variants.{Number}
 use Rattle.reader.specs.declared.Head.{Head}
 use Rattle.reader.specs.declared.Headed.the-variants.{Is as HeadIs, Bad as NoHead}
 use Rattle.reader.specs.declared.Objects.{Objects}
@@ -33,7 +30,7 @@ use Rattle.reader.specs.declared.RangeFields.the-variants.{Are as RangeIs, Bad 
 use Rattle.reader.specs.declared.Whole.{Whole}
 use Rattle.reader.specs.declared.Reading.{Reading}
 use Rattle.reader.specs.declared.Reading.the-variants.{Is as RecordIs, Bad as NoRecord}
-use Rattle.reader.specs.Code.Reader.{place, onNumber, onPart, offsetAt, blockAt, listAt, nameAt, headAt, objectsAt, namesAt, rangeAt, tiedAt, afterNames, afterRange, recordAt}
+use Rattle.reader.specs.Code.Reader.{place, offsetAt, blockAt, listAt, nameAt, headAt, objectsAt, namesAt, rangeAt, tiedAt, afterNames, afterRange, recordAt}
 use Rattle.reader.specs.Code.Found.{recordFrom}
 use Rattle.reader.specs.Answer.{spanIf, wholeOf}
 use Rattle.reader.specs.ReaderLaws.{number-below}

@@ -1,29 +1,26 @@
 -- The used slots in their bytes: where each lies, what its bytes hold, and what a change of one leaves.
 -- Assumes nothing.
-use Prim.Native.Nat.{ℕ, zero, suc, _+_, _*_, _%_, _≤_, _<_}
-use native.Mathlib.Nat.{zero-mul, suc-mul, mul-le-mul-right}
+use Prim.Native.Nat.{ℕ, _+_, _*_, _%_, _≤_, _<_}
 use native.Mathlib.Omega.{arith}
-use mathlib.Core.Path.{_≡_, refl, sym, ap, _∙_}
-use mathlib.Core.List.{List, [], _∷_, _++_}
-use mathlib.Core.Bool.{Bool, true, and-eq-true-iff}
-use lib.ListN.{length, getD, set, take, drop, replicate}
-use lib.Seq.{take-at, drop-append-add}
+use mathlib.Core.Path.{_≡_, refl, ap, _∙_}
+use mathlib.Core.List.{List, _++_}
+use mathlib.Core.Bool.{true, and-eq-true-iff}
+use lib.ListN.{length, getD, set, take, drop}
 use lib.Dec.{leb, eqb}
 use borrow.Author.Tests.{leb-true}
 use Rattle.buffer.specs.Numeral.{bytes, numeral}
-use Rattle.buffer.specs.NumeralLaws.{length-bytes, numeral-bytes}
+use Rattle.buffer.specs.NumeralLaws.{numeral-bytes}
 use Rattle.buffer.specs.Patch.{patch}
 use Rattle.records.specs.Operation.{Record}
 use Rattle.records.specs.Fields.{encode, headBytes, between, validHead, valid}
 use Rattle.records.specs.RecordLaws.{valid-inv}
 use Rattle.entry.specs.Stored.{padded}
-use Rattle.entry.specs.WriteLaws.{patch-behind, patch-first, patch-inside}
-use Rattle.log.specs.Slot.{State, waiting, lost, stateNumber, Slot, withState, withDependents, isWaiting, sequenceOf, goodSlots}
+use Rattle.entry.specs.WriteLaws.{patch-inside}
+use Rattle.log.specs.Slot.{State, waiting, lost, stateNumber, Slot, withState, withDependents, isWaiting, sequenceOf}
 use Rattle.log.specs.Stored.{slotBytes, dependentsAt, lossAt, recordBytes, encodeSlot, encodeSlots}
-use Rattle.log.specs.SlotLaws.{GoodSlot, slots-inv}
 use Rattle.log.specs.StoredLaws.{length-slot, slot-state}
 use Rattle.log.specs.GeometryLaws.{good-at, slotted-length, slot-stored, slot-set}
-use Rattle.log.specs.Code.Slots.{slotsIn, slotPart, slotAt, Slotted}
+use Rattle.log.specs.Code.Slots.{slotsIn, slotAt, Slotted}
 
 -- Each slot lies wholly in the bytes of used slots.
 pub slot-room : (s : List ℕ) → Slotted s → (i : ℕ) → i < length (slotsIn s) → i * slotBytes + slotBytes ≤ length s

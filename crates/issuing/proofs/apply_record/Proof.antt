@@ -1,7 +1,6 @@
 -- `issuing::apply_record` meets its contract: the reader finds the record that the slice begins with. Assumes nothing.
-use mathlib.Core.Path.{_≡_, sym, ap, _∙_}
-use mathlib.Core.Bool.{true}
-use Rattle.records.specs.Operation.{Operation, Record}
+use mathlib.Core.Path.{ap, _∙_}
+use Rattle.records.specs.Operation.{Record}
 use Rattle.search.specs.Stored.{encodeVolume, readVolume}
 use Rattle.search.specs.AnswerLaws.{settled}
 use Rattle.applies.specs.Apply.{applies, apply}

@@ -2,14 +2,10 @@
 -- `issuing::issue` meets its contract: the record is applied where it stands, the used slots are noted as a part of the log, and the
 use native.Mathlib.Omega.{arith}
 use Prim.Native.Nat.{ℕ, _≤_}
-use mathlib.Core.Path.{_≡_, refl, sym, ap, _∙_, subst}
-use mathlib.Core.List.{List, []}
-use mathlib.Core.Bool.{true}
+use mathlib.Core.Path.{_≡_, _∙_}
+use mathlib.Core.List.{[]}
 use lib.ListN.{length}
-use Rattle.records.specs.Operation.{Record}
-use Rattle.log.specs.Slot.{Log}
 use Rattle.slots.specs.SlotLaws.{head-limits}
-use Rattle.issuing.specs.Code.Issued.{Begins, Issued}
 use Rattle.issuing.specs.DraftLaws.{draft-part, draft-slotted, draft-next, draft-long, issued-all}
 use borrow.Author.Needs.{needs}
 use Rattle.issuing.proofs.issue.Statement.{statement}

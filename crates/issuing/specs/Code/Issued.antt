@@ -7,7 +7,7 @@ use lib.ListN.{length}
 use Rattle.records.specs.Operation.{Record, operands}
 use Rattle.records.specs.Fields.{encode, valid, fits}
 use Rattle.search.specs.Volume.{Volume}
-use Rattle.search.specs.Stored.{encodeVolume, readVolume}
+use Rattle.search.specs.Stored.{encodeVolume}
 use Rattle.applies.specs.Apply.{applies, apply}
 use Rattle.log.specs.Slot.{Log}
 use Rattle.log.specs.Stored.{encodeLog, readLog}

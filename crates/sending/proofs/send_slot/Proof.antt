@@ -1,7 +1,7 @@
 -- `sending::send_slot` meets its contract: the reader finds the slot's record, which fits, and its operation is applied if it applies.
 -- Assumes nothing.
 use Prim.Native.Nat.{ℕ}
-use mathlib.Core.Path.{_≡_, sym, ap, _∙_}
+use mathlib.Core.Path.{_≡_, sym, ap}
 use mathlib.Core.List.{List}
 use mathlib.Core.Bool.{true, false}
 use Rattle.records.specs.Operation.{Operation, Record}

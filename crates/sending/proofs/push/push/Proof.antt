@@ -1,17 +1,13 @@
 -- `sending::push::push` meets its contract: the used slots are lent on as a part, to be read and then to be closed up. Assumes nothing.
 use native.Mathlib.Omega.{arith}
-use mathlib.Core.Path.{_≡_, sym, ap, _∙_, subst}
-use mathlib.Core.Bool.{true, false}
+use mathlib.Core.Path.{ap, _∙_}
 use mathlib.Core.List.{List}
 use lib.ListN.{length}
 use Rattle.log.specs.Slot.{Slot, goodSlots}
 use Rattle.log.specs.Stored.{readLog}
 use Rattle.log.specs.GeometryLaws.{used-good}
-use Rattle.log.specs.Code.Slots.{slotAt}
-use Rattle.search.specs.AnswerLaws.{settled}
 use Rattle.search.specs.Stored.{readVolume}
 use Rattle.slots.specs.HeadLaws.{lent-slotted, lent-slots}
-use Rattle.sending.specs.Code.Sends.{Pushed}
 use Rattle.sending.specs.PushLaws.{slot-sent, did-push, did-not-push}
 use borrow.Author.Needs.{needs}
 use Rattle.sending.proofs.push.push.Statement.{statement}

@@ -1,10 +1,9 @@
 -- Assumes nothing.
 -- `slots::head::used` meets its contract. The loop's invariant: the slots passed are used.
-use Prim.Native.Nat.{ℕ, _+_, _*_, _-_, _≤_, _<_}
+use Prim.Native.Nat.{ℕ, _+_, _-_, _≤_, _<_}
 use native.Mathlib.Omega.{arith}
 use native.Mathlib.Decide.{decLt}
 use mathlib.Core.Path.{_≡_, sym, _∙_}
-use lib.ListN.{getD}
 use Rattle.log.specs.GeometryLaws.{used-most}
 use Rattle.log.specs.Code.Slots.{Logged, usedIn}
 use Rattle.slots.specs.HeadLaws.{free-unused, unused-free}

@@ -5,10 +5,10 @@ use lib.ListN.{length-append}
 use Rattle.buffer.specs.Patch.{patch}
 use native.Mathlib.Nat.{add-zero}
 use mathlib.Core.Path.{_∙_, ap, sym}
-use mathlib.Core.List.{List, _++_}
+use mathlib.Core.List.{_++_}
 use Rattle.buffer.specs.Numeral.{bytes}
 use Rattle.buffer.specs.NumeralLaws.{length-bytes}
-use Rattle.buffer.specs.PatchLaws.{put-then, put-end}
+use Rattle.buffer.specs.PatchLaws.{put-then}
 use Rattle.log.specs.Slot.{lost, withState, withDependents}
 use Rattle.log.specs.Stored.{slotBytes}
 use Rattle.log.specs.Code.Slots.{slotsIn, slotAt}

@@ -1,7 +1,7 @@
 -- Assumes nothing.
 -- `slots::slot::slot` meets its contract: each used slot lies wholly in the bytes.
 use Prim.Native.Nat.{ℕ, _*_}
-use mathlib.Core.Path.{_≡_, ap, _∙_}
+use mathlib.Core.Path.{ap, _∙_}
 use native.Mathlib.Nat.{add-sub-cancel-left}
 use native.Mathlib.Omega.{arith}
 use lib.ListN.{length, take, drop}
