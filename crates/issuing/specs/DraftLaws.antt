@@ -16,7 +16,7 @@ use Rattle.entry.specs.Stored.{padded}
 use Rattle.entry.specs.WriteLaws.{patch-first, patch-between}
 use Rattle.log.specs.Programs.{with}
 use Rattle.log.specs.Slot.{Slot, Log}
-use Rattle.log.specs.Stored.{headBytes, slotBytes, lossAt, recordBytes, encodeSlot, encodeSlots, encodeLog, readLog}
+use Rattle.log.specs.Stored.{encodeHead, headBytes, slotBytes, lossAt, recordBytes, encodeSlot, encodeSlots, encodeLog, readLog}
 use Rattle.log.specs.StoredLaws.{length-slot, length-slots, length-padded}
 use Rattle.log.specs.SlotLaws.{formed-inv}
 use Rattle.log.specs.GeometryLaws.{head-part, used-bytes, logged-parts, used-good, slots-append, slots-in, slotted-of}
@@ -25,13 +25,13 @@ use Rattle.log.specs.Change.{note, issue, waitingSlot}
 use Rattle.log.specs.Code.Slots.{slotsIn, Slotted, Logged, usedIn}
 use Rattle.log.specs.ChangeLaws.{noted-good, noted-length}
 use Rattle.slots.specs.SlotLaws.{head-limits}
-use Rattle.issuing.specs.Code.Draft.{head, drafted, Draft}
+use Rattle.issuing.specs.Code.Draft.{drafted, Draft}
 use Rattle.issuing.specs.Code.Issued.{Issuable, Room, issuedLog, Ready}
 use Rattle.search.specs.Volume.{Volume}
 use Rattle.writer.specs.Code.Writer.{Writable, Written}
 
 -- The head of a log is so many bytes.
-head-long : (l : Log) → length (head l) ≡ headBytes
+head-long : (l : Log) → length (encodeHead l) ≡ headBytes
 unfolding bytes
 head-long l = refl
 
@@ -67,13 +67,13 @@ module _ (n b m : ℕ) (s : List ℕ) (l : Log) (r : Record) (d : Draft n b m s 
   tail-long = length-padded recordBytes (encode r) (encode-length r (d .sound) .1)
 
   -- The used slots, and the record, as parts of the bytes.
-  pub draft-head : take headBytes s ≡ head l
+  pub draft-head : take headBytes s ≡ encodeHead l
   unfolding drafted
-  draft-head = rw (d .held) (take-at (head l) _ headBytes (head-long l))
+  draft-head = rw (d .held) (take-at (encodeHead l) _ headBytes (head-long l))
 
   behind-head : drop headBytes s ≡ encodeSlots (l .slots) ++ (replicate lossAt 0 ++ (padded recordBytes (encode r) ++ replicate ((m - suc (length (l .slots))) * slotBytes) 0))
   unfolding drafted
-  behind-head = rw (d .held) (drop-at (head l) _ headBytes (head-long l))
+  behind-head = rw (d .held) (drop-at (encodeHead l) _ headBytes (head-long l))
 
   pub draft-slots : take (length (l .slots) * slotBytes) (drop headBytes s) ≡ encodeSlots (l .slots)
   draft-slots = rw behind-head (take-at (encodeSlots (l .slots)) _ (length (l .slots) * slotBytes) slots-long)
@@ -137,18 +137,19 @@ module _ (n b m : ℕ) (s : List ℕ) (l : Log) (r : Record) (d : Draft n b m s 
       let y : List ℕ = padded recordBytes (encode r) in
       let f = bytes 4 1 ++ bytes 4 (with 0 p) in
       let room = d .room in
-      let k : headBytes + u * slotBytes ≡ length (head l ++ x) = sym (length-append (head l) x ∙ ap₂ (λ (i j : ℕ). i + j) (head-long l) w) in
+      let k : headBytes + u * slotBytes ≡ length (encodeHead l ++ x) = sym (length-append (encodeHead l) x ∙ ap₂ (λ (i j : ℕ). i + j) (head-long l) w) in
       let front : length (replicate {A = ℕ} lossAt 0) ≡ length f = sym (length-append (bytes 4 1) (bytes 4 (with 0 p)) ∙ ap₂ (λ (i j : ℕ). i + j) (length-bytes 4 1) (length-bytes 4 (with 0 p))) in
-      let inner : patch (head l ++ (x ++ (replicate lossAt 0 ++ (y ++ z)))) (headBytes + u * slotBytes) f ≡ head l ++ (x ++ (f ++ (y ++ z))) =
-      ap (λ (t : List ℕ). patch t (headBytes + u * slotBytes) f) (sym (append-assoc (head l) x (replicate lossAt 0 ++ (y ++ z))))
-      ∙ patch-between (head l ++ x) (replicate lossAt 0) (y ++ z) (headBytes + u * slotBytes) f (sym k) front
-      ∙ append-assoc (head l) x (f ++ (y ++ z)) in
-      let outer : patch (head l ++ (x ++ (f ++ (y ++ z)))) 0 (bytes 4 (l .next + 1)) ≡ bytes 4 (l .next + 1) ++ (bytes 4 (l .marks) ++ (x ++ (f ++ (y ++ z)))) =
+      let inner : patch (encodeHead l ++ (x ++ (replicate lossAt 0 ++ (y ++ z)))) (headBytes + u * slotBytes) f ≡ encodeHead l ++ (x ++ (f ++ (y ++ z))) =
+      ap (λ (t : List ℕ). patch t (headBytes + u * slotBytes) f) (sym (append-assoc (encodeHead l) x (replicate lossAt 0 ++ (y ++ z))))
+      ∙ patch-between (encodeHead l ++ x) (replicate lossAt 0) (y ++ z) (headBytes + u * slotBytes) f (sym k) front
+      ∙ append-assoc (encodeHead l) x (f ++ (y ++ z)) in
+      let outer : patch (encodeHead l ++ (x ++ (f ++ (y ++ z)))) 0 (bytes 4 (l .next + 1)) ≡ bytes 4 (l .next + 1) ++ (bytes 4 (l .marks) ++ (x ++ (f ++ (y ++ z)))) =
       ap (λ (t : List ℕ). patch t 0 (bytes 4 (l .next + 1))) (append-assoc (bytes 4 (l .next)) (bytes 4 (l .marks)) (x ++ (f ++ (y ++ z))))
       ∙ patch-first (bytes 4 (l .next)) _ (bytes 4 (l .next + 1)) (length-bytes 4 (l .next) ∙ sym (length-bytes 4 (l .next + 1))) in
       ap (λ (t : List ℕ). patch (patch t (headBytes + u * slotBytes) f) 0 (bytes 4 (l .next + 1))) (ap₂ (λ (a q : List ℕ). a ++ (x ++ q)) draft-head draft-free)
       ∙ ap (λ (t : List ℕ). patch t 0 (bytes 4 (l .next + 1))) inner ∙ outer
-      ∙ ap (λ (t : List ℕ). bytes 4 (l .next + 1) ++ (bytes 4 (l .marks) ++ t))
+      ∙ sym (append-assoc (bytes 4 (l .next + 1)) (bytes 4 (l .marks)) (x ++ (f ++ (y ++ z))))
+      ∙ ap (λ (t : List ℕ). (bytes 4 (l .next + 1) ++ bytes 4 (l .marks)) ++ t)
       (ap₂ (λ (i : ℕ) (q : Record). x ++ (f ++ (padded recordBytes (encode q) ++ replicate ((m - suc i) * slotBytes) 0))) (sym c) e
       ∙ slots-more m (noted p ops (l .slots)) (l .next) p o (rw e at (d .sound)) (w ∙ ap (λ (i : ℕ). i * slotBytes) (sym c)) (rw c (d .room)))
 
@@ -178,7 +179,7 @@ zeros-behind j k h = ap (drop j) (zeros-parts j k h) ∙ drop-at (replicate j 0)
 module _ (n b m : ℕ) (s : List ℕ) (u : Logged n b m s) (r : Record) (sound : valid r ≡ true) (room : usedIn m s < m) where
   -- The bytes before the place of the record, and those from it on.
   abbrev before : List ℕ
-  before = head (readLog m s) ++ (encodeSlots (readLog m s .slots) ++ replicate lossAt 0)
+  before = encodeHead (readLog m s) ++ (encodeSlots (readLog m s .slots) ++ replicate lossAt 0)
 
   abbrev behind : List ℕ
   behind = replicate ((m - suc (usedIn m s)) * slotBytes) 0
@@ -186,7 +187,7 @@ module _ (n b m : ℕ) (s : List ℕ) (u : Logged n b m s) (r : Record) (sound :
   before-long : length before ≡ headBytes + usedIn m s * slotBytes + lossAt
   before-long =
       let w = length-slots n b (readLog m s .slots) (used-good n b m s u) in
-      length-append (head (readLog m s)) _ ∙ ap (λ (i : ℕ). length (head (readLog m s)) + i) (length-append (encodeSlots (readLog m s .slots)) (replicate lossAt 0) ∙ ap₂ (λ (i j : ℕ). i + j) w (length-replicate {A = ℕ} lossAt 0))
+      length-append (encodeHead (readLog m s)) _ ∙ ap (λ (i : ℕ). length (encodeHead (readLog m s)) + i) (length-append (encodeSlots (readLog m s .slots)) (replicate lossAt 0) ∙ ap₂ (λ (i j : ℕ). i + j) w (length-replicate {A = ℕ} lossAt 0))
       ∙ ap (λ (i : ℕ). i + (usedIn m s * slotBytes + lossAt)) (head-long (readLog m s)) ∙ omega arith
 
   parted : s ≡ before ++ (replicate recordBytes 0 ++ behind)
@@ -199,8 +200,8 @@ module _ (n b m : ℕ) (s : List ℕ) (u : Logged n b m s) (r : Record) (sound :
       ∙ ap (λ (t : List ℕ). replicate lossAt 0 ++ t) (sym (replicate-append-replicate recordBytes ((m - suc k) * slotBytes) 0)) in
       logged-parts n b m s u
       ∙ ap₂ (λ (x y : List ℕ). x ++ y) (head-part n b m s u) (ap₂ (λ (x y : List ℕ). x ++ y) (used-bytes n b m s u) z)
-      ∙ ap (λ (t : List ℕ). head l ++ t) (sym (append-assoc (encodeSlots (l .slots)) (replicate lossAt 0) (replicate recordBytes 0 ++ behind)))
-      ∙ sym (append-assoc (head l) (encodeSlots (l .slots) ++ replicate lossAt 0) (replicate recordBytes 0 ++ behind))
+      ∙ ap (λ (t : List ℕ). encodeHead l ++ t) (sym (append-assoc (encodeSlots (l .slots)) (replicate lossAt 0) (replicate recordBytes 0 ++ behind)))
+      ∙ sym (append-assoc (encodeHead l) (encodeSlots (l .slots) ++ replicate lossAt 0) (replicate recordBytes 0 ++ behind))
 
   pub written : (x : List ℕ) → x ≡ encode r ++ drop (length (encode r)) (take recordBytes (drop (headBytes + usedIn m s * slotBytes + lossAt) s))
       → take (headBytes + usedIn m s * slotBytes + lossAt) s ++ (x ++ drop recordBytes (drop (headBytes + usedIn m s * slotBytes + lossAt) s)) ≡ drafted m (readLog m s) r
@@ -215,8 +216,8 @@ module _ (n b m : ℕ) (s : List ℕ) (u : Logged n b m s) (r : Record) (sound :
       let v : x ≡ padded recordBytes (encode r) = e ∙ ap (λ (q : List ℕ). encode r ++ drop (length (encode r)) q) y
       ∙ ap (λ (q : List ℕ). encode r ++ q) (zeros-behind (length (encode r)) recordBytes (encode-length r sound .1)) in
       ap₂ (λ (p q : List ℕ). p ++ q) t (ap₂ (λ (p q : List ℕ). p ++ q) v g)
-      ∙ append-assoc (head l) (encodeSlots (l .slots) ++ replicate lossAt 0) (padded recordBytes (encode r) ++ behind)
-      ∙ ap (λ (q : List ℕ). head l ++ q) (append-assoc (encodeSlots (l .slots)) (replicate lossAt 0) (padded recordBytes (encode r) ++ behind))
+      ∙ append-assoc (encodeHead l) (encodeSlots (l .slots) ++ replicate lossAt 0) (padded recordBytes (encode r) ++ behind)
+      ∙ ap (λ (q : List ℕ). encodeHead l ++ q) (append-assoc (encodeSlots (l .slots)) (replicate lossAt 0) (padded recordBytes (encode r) ++ behind))
 
 -- What was written where the record of the first free slot stands may be issued.
 module _ (n b m : ℕ) (s : List ℕ) (u : Logged n b m s) (room : Room m s) (v : Volume) (k : ℕ) (e : k ≡ usedIn m s) where

@@ -14,7 +14,7 @@ use Rattle.records.specs.Operation.{Record, operands}
 use Rattle.records.specs.Fields.{allBelow, fits, parts}
 use Rattle.entry.specs.Stored.{padded}
 use Rattle.log.specs.Slot.{Slot, Log, withSlots, goodSlot, goodSlots, wellFormed}
-use Rattle.log.specs.Stored.{headBytes, slotBytes, encodeSlot, encodeSlots, encodeLog, readSlots, readLog}
+use Rattle.log.specs.Stored.{encodeHead, headBytes, slotBytes, encodeSlot, encodeSlots, encodeLog, readSlots, readLog}
 use Rattle.log.specs.SlotLaws.{and-both, GoodSlot, slots-inv, slots-of, formed-inv, formed-of}
 use Rattle.log.specs.StoredLaws.{length-slot, length-slots, length-log, read-slots, read-log}
 use Rattle.log.specs.Code.Slots.{slotsIn, slotPart, slotAt, noSlot, Slotted, Logged, usedIn, usedPart}
@@ -164,17 +164,13 @@ slotted-set s u i lt t g =
     let c : length (set l i t) ≤ 1024 = rw length-set (u .most) in
     rw (slot-set s u i lt t (length-slot t (g .sound))) (slotted-of 256 64 (set l i t) (omega arith) (omega arith) c h, slots-in 256 64 (set l i t) h)
 
-head-of : (m : ℕ) (l : Log) → take headBytes (encodeLog m l) ≡ bytes 4 (l .next) ++ bytes 4 (l .marks)
+head-of : (m : ℕ) (l : Log) → take headBytes (encodeLog m l) ≡ encodeHead l
 unfolding encodeLog bytes
 head-of m l = refl
 
 rest-of : (m : ℕ) (l : Log) → drop headBytes (encodeLog m l) ≡ encodeSlots (l .slots) ++ replicate (m * slotBytes - length (encodeSlots (l .slots))) 0
 unfolding encodeLog bytes
 rest-of m l = refl
-
-log-of : (m : ℕ) (l : Log) → encodeLog m l ≡ (bytes 4 (l .next) ++ bytes 4 (l .marks)) ++ padded (m * slotBytes) (encodeSlots (l .slots))
-unfolding encodeLog
-log-of m l = sym (append-assoc (bytes 4 (l .next)) (bytes 4 (l .marks)) (padded (m * slotBytes) (encodeSlots (l .slots))))
 
 -- a well-formed log's bytes are those of a log
 pub logged-whole : (n b m : ℕ) (l : Log) → wellFormed n b m l ≡ true → n ≤ 256 → b ≤ 64 → m ≤ 1024 → Logged n b m (encodeLog m l)
@@ -204,7 +200,7 @@ module _ (n b m : ℕ) (s : List ℕ) (u : Logged n b m s) where
   used-length = length-slots n b (readLog m s .slots) used-good
 
   -- a log's head is its next number and its marks
-  pub head-part : take headBytes s ≡ bytes 4 (readLog m s .next) ++ bytes 4 (readLog m s .marks)
+  pub head-part : take headBytes s ≡ encodeHead (readLog m s)
   head-part = ap (take headBytes) (sym (u .stored)) ∙ head-of m (readLog m s)
 
   behind-head : drop headBytes s ≡ encodeSlots (readLog m s .slots) ++ replicate ((m - usedIn m s) * slotBytes) 0
@@ -237,12 +233,13 @@ module _ (n b m : ℕ) (s : List ℕ) (u : Logged n b m s) where
 
   slots-put : (l : List Slot) (z : ℕ) → length (encodeSlots l) + z ≡ usedIn m s * slotBytes
       → take headBytes s ++ ((encodeSlots l ++ replicate z 0) ++ drop (headBytes + usedIn m s * slotBytes) s) ≡ encodeLog m (withSlots l (readLog m s))
+  unfolding encodeLog
   slots-put l z e =
       let le = used-most in
       let k : z + (m - usedIn m s) * slotBytes ≡ m * slotBytes - length (encodeSlots l) = omega arith in
       let j : _≡_ {A = List ℕ} (replicate z 0 ++ replicate ((m - usedIn m s) * slotBytes) 0) (replicate (m * slotBytes - length (encodeSlots l)) 0) =
       rw (← k) (replicate-append-replicate z ((m - usedIn m s) * slotBytes) 0) in
-      rw (head-part, free-part, append-assoc (encodeSlots l) (replicate z 0) (replicate ((m - usedIn m s) * slotBytes) 0), j) (sym (log-of m (withSlots l (readLog m s))))
+      rw (head-part, free-part, append-assoc (encodeSlots l) (replicate z 0) (replicate ((m - usedIn m s) * slotBytes) 0), j)
 
   -- with as many slots put in their place the bytes are those of the log with these slots
   pub slots-replaced : (l : List Slot) → length (encodeSlots l) ≡ usedIn m s * slotBytes

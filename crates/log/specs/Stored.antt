@@ -44,9 +44,13 @@ unfoldable pub encodeSlots : List Slot → List ℕ
 encodeSlots [] = []
 encodeSlots (s ∷ l) = encodeSlot s ++ encodeSlots l
 
--- "next sequence number (4 ..), marked programs (4 ..), then m slots", the free ones zero
+-- "next sequence number (4 ..), marked programs (4 ..)"
+abbrev pub encodeHead : Log → List ℕ
+encodeHead l = bytes 4 (l .next) ++ bytes 4 (l .marks)
+
+-- the head, "then m slots", the free ones zero
 unfoldable pub encodeLog : ℕ → Log → List ℕ
-encodeLog m l = bytes 4 (l .next) ++ (bytes 4 (l .marks) ++ padded (m * slotBytes) (encodeSlots (l .slots)))
+encodeLog m l = encodeHead l ++ padded (m * slotBytes) (encodeSlots (l .slots))
 
 -- the used slot that a slot's bytes tell of, if their state is one and a record stands behind it
 abbrev pub slotFrom : ℕ → ℕ → Option Record → Option Slot

@@ -126,7 +126,7 @@ read-log n b m l h =
     let d₈ : drop headBytes (bytes 4 (l .next) ++ (bytes 4 (l .marks) ++ p)) ≡ p = behind-head (l .next) (l .marks) p in
     let e₃ : readSlots m (drop headBytes (bytes 4 (l .next) ++ (bytes 4 (l .marks) ++ p))) ≡ l .slots =
     rw d₈ (read-slots n b m (m * slotBytes - length z) (l .slots) (f .good) (omega arith)) in
-    λ i. record { next = e₁ i; marks = e₂ i; slots = e₃ i }
+    ap (readLog m) (append-assoc (bytes 4 (l .next)) (bytes 4 (l .marks)) p) ∙ (λ i. record { next = e₁ i; marks = e₂ i; slots = e₃ i })
 
 -- bytes taken for a log are those of that log, which is well formed
 pub encode-decode : (n b m : ℕ) (s : List ℕ) (l : Log) → decodeLog n b m s ≡ some l → (wellFormed n b m l ≡ true) × (encodeLog m l ≡ s)

@@ -168,7 +168,8 @@ checks-sound n b m s size byte h =
     let join : List ℕ → List ℕ → List ℕ = λ x y. x ++ y in
     let rest : take 4 (drop 4 s) ++ drop headBytes s ≡ drop 4 s = ap (join (take 4 (drop 4 s))) (sym (drop-drop 4 4 s)) ∙ take-append-drop 4 (drop 4 s) in
     let stored : encodeLog m l ≡ s =
-    ap₂ join (number-back 4 0 s (omega arith) byte) (ap₂ join (number-back 4 4 s (omega arith) byte) (r .stored) ∙ rest) ∙ take-append-drop 4 s in
+    append-assoc (bytes 4 next) (bytes 4 (l .marks)) (padded (m * slotBytes) (encodeSlots (r .slots)))
+    ∙ ap₂ join (number-back 4 0 s (omega arith) byte) (ap₂ join (number-back 4 4 s (omega arith) byte) (r .stored) ∙ rest) ∙ take-append-drop 4 s in
     ap isLog (ap (decodeLog n b m) (sym stored) ∙ decode-encode n b m l form)
 
 -- The slots' bytes of a log that is stored.

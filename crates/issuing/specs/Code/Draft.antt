@@ -4,21 +4,16 @@ use mathlib.Core.Path.{_≡_}
 use mathlib.Core.List.{List, _++_}
 use mathlib.Core.Bool.{true}
 use lib.ListN.{length, replicate}
-use Rattle.buffer.specs.Numeral.{bytes}
 use Rattle.records.specs.Operation.{Record}
 use Rattle.records.specs.Fields.{encode, valid, fits}
 use Rattle.entry.specs.Stored.{padded}
 use Rattle.log.specs.Slot.{Log, wellFormed}
-use Rattle.log.specs.Stored.{slotBytes, lossAt, recordBytes, encodeSlots}
-
--- the first bytes of a log
-abbrev pub head : Log → List ℕ
-head l = bytes 4 (l .next) ++ bytes 4 (l .marks)
+use Rattle.log.specs.Stored.{slotBytes, lossAt, recordBytes, encodeSlots, encodeHead}
 
 -- a log's bytes with a record in its first free slot
 unfoldable pub drafted : ℕ → Log → Record → List ℕ
 drafted m l r =
-    head l
+    encodeHead l
     ++ (encodeSlots (l .slots)
     ++ (replicate lossAt 0 ++ (padded recordBytes (encode r) ++ replicate ((m - suc (length (l .slots))) * slotBytes) 0)))
 
