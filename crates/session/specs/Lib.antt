@@ -14,6 +14,7 @@ pub mod RefusalLaws
 pub mod IssuingLaws
 pub mod EditLaws
 pub mod EffectLaws
+pub mod PerformLaws
 pub mod ReadyLaws
 pub mod CallLaws
 pub mod StepLaws

@@ -47,7 +47,7 @@ order-apart (b ∷ u) v q o a m e =
     ⊎-elim (λ (z : a ≡ b). let lt = o .0 q (Memᴰ·append-right u (List·Memᴰ·head refl)) in let y = ap (λ (r : Record). r .sequence) z in omega arith)
     (λ (z : List·Memᴰ a (u ++ v)). order-apart u v q (o .1) a z e) (List·Memᴰ·cases-cons m)
 
-around : (u v : List Record) (q a : Record) → List·Memᴰ a (u ++ (q ∷ v)) → (a ≡ q → ⊥) → List·Memᴰ a (u ++ v)
+pub around : (u v : List Record) (q a : Record) → List·Memᴰ a (u ++ (q ∷ v)) → (a ≡ q → ⊥) → List·Memᴰ a (u ++ v)
 around u v q a m n =
     ⊎-elim (λ (z : List·Memᴰ a u). Memᴰ·append-left v z)
     (λ (z : List·Memᴰ a (q ∷ v)). ⊎-elim (λ (y : a ≡ q). absurd (n y)) (λ (y : List·Memᴰ a v). Memᴰ·append-right u y) (List·Memᴰ·cases-cons z)) (List·Memᴰ·append-cases u m)

@@ -1,0 +1,58 @@
+-- After an operation is issued the log and the view are of the right form again, and tell of what it left: so the next operation of the
+-- same call may be issued on them. Assumes nothing.
+use Prim.Native.Nat.{ℕ, _<_}
+use native.Mathlib.Omega.{arith}
+use mathlib.Core.Path.{_≡_, sym, ap, _∙_, subst}
+use mathlib.Core.List.{List}
+use mathlib.Core.Bool.{true}
+use lib.ListN.{length}
+use Rattle.records.specs.Operation.{Record, recordOf, operands}
+use Rattle.records.specs.Fields.{valid, fits}
+use Rattle.search.specs.Form.{wellFormed as wellFormedVolume}
+use Rattle.search.specs.Stored.{encodeVolume, readVolume}
+use Rattle.search.specs.StoredLaws.{read-good}
+use Rattle.search.specs.LentLaws.{encoded-formed}
+use Rattle.search.specs.Code.Lent.{Formed}
+use Rattle.applies.specs.Apply.{apply}
+use Rattle.applies.specs.ApplyLaws.{apply-good}
+use Rattle.log.specs.Slot.{Log, wellFormed}
+use Rattle.log.specs.Stored.{encodeLog, readLog}
+use Rattle.log.specs.StoredLaws.{read-log}
+use Rattle.log.specs.Change.{note}
+use Rattle.log.specs.ChangeLaws.{note-good, issue-good, noted-length}
+use Rattle.log.specs.GeometryLaws.{logged-whole}
+use Rattle.log.specs.Code.Slots.{Logged, usedIn}
+use Rattle.slots.specs.SlotLaws.{head-limits}
+use Rattle.issuing.specs.Code.Issued.{Issuable, Room, issuedLog, Issued}
+
+module _ (n b m : ℕ) (s t : List ℕ) (u : Logged n b m s) (f : Formed n b t) (r : Record) (able : Issuable n b (readVolume n b t) r)
+    (room : Room m s) (first : r .sequence ≡ readLog m s .next) where
+  issued-form : wellFormed n b m (issuedLog r (readLog m s)) ≡ true
+  issued-form =
+      let l = readLog m s in
+      let p = r .program in
+      let o = r .operation in
+      let small = head-limits r (able .sound) .1 in
+      let is : r ≡ recordOf (l .next) p o = ap (λ (j : ℕ). recordOf j p o) first in
+      let c : length (note p (operands o) l .slots) < m = rw (noted-length p (operands o) (l .slots)) (room .0) in
+      issue-good n b m p o (note p (operands o) l) small (note-good n b m p (operands o) l small (u .form)) c (room .1) (rw is at (able .sound)) (rw is at (able .fit))
+
+  module _ (x : ℕ) (log view : List ℕ) (h : Issued n b m x log view (readVolume n b t) (readLog m s) r) where
+    -- The log.
+    pub issued-logged : Logged n b m log
+    issued-logged = subst (Logged n b m) (sym (h .log)) (logged-whole n b m (issuedLog r (readLog m s)) issued-form (u .objects) (u .blocks) (u .most))
+
+    pub issued-read : readLog m log ≡ issuedLog r (readLog m s)
+    issued-read = ap (readLog m) (h .log) ∙ read-log n b m (issuedLog r (readLog m s)) issued-form
+
+    applied-form : wellFormedVolume n b (apply (readVolume n b t) (r .operation)) ≡ true
+    applied-form = apply-good n b (readVolume n b t) r (f .form) (able .sound) (able .fit) (able .ready)
+
+    -- The view.
+    pub issued-formed : Formed n b view
+    issued-formed =
+        let l = f .lent in
+        subst (Formed n b) (sym (h .view)) (encoded-formed n b (apply (readVolume n b t) (r .operation)) (l .fewest) (l .most) (l .least) (l .blocks) applied-form)
+
+    pub issued-view : readVolume n b view ≡ apply (readVolume n b t) (r .operation)
+    issued-view = ap (readVolume n b) (h .view) ∙ read-good n b (apply (readVolume n b t) (r .operation)) (f .lent .most) (f .lent .blocks) applied-form

@@ -1,0 +1,42 @@
+-- What lists of effects leave, in the log's own terms: an operation issued with its dependence, and sends one after the other.
+use Prim.Native.Nat.{ℕ, _<_}
+use native.Mathlib.Omega.{arith}
+use mathlib.Core.Path.{_≡_, refl, sym, ap, _∙_, subst}
+use mathlib.Core.Bool.{true}
+use mathlib.Core.Option.{Option, some}
+use mathlib.Core.List.{List, [], _∷_, List·Memᴰ, List·Memᴰ·head, List·Memᴰ·tail}
+use Rattle.records.specs.Operation.{Operation, Record, operands}
+use Rattle.applies.specs.Apply.{apply}
+use Rattle.log.specs.Slot.{wellFormed}
+use Rattle.log.specs.Change.{waitingOf, waitingAt}
+use Rattle.log.specs.Change
+use Rattle.log.specs.ChangeLaws.{waiting-at, sent-good, sent-waiting}
+use Rattle.log.specs.OrderLaws.{Rising}
+use Rattle.log.specs.Sends.{applyAll, sentAll}
+use Rattle.session.specs.Model.{Model, withServer, withView, withLog}
+use Rattle.session.specs.ReadyLaws.{around}
+use Rattle.session.specs.Effect.{sentFound, perform, performAll, sends, issuing}
+
+-- One operation of a call: its dependence is noted, and it is issued.
+pub issuing-one : (p : ℕ) (o : Operation) (x : Model)
+    → performAll (issuing p (o ∷ [])) x ≡ withView (apply (x .view) o) (withLog (Change.issue p o (Change.note p (operands o) (x .log))) x)
+unfolding performAll perform issuing
+issuing-one p o x = refl
+
+-- Sends of waiting operations in issue order: each is applied to the server and leaves the log.
+pub sends-performed : (n b m : ℕ) (rs : List Record) (x : Model) → wellFormed n b m (x .log) ≡ true → Rising (λ (r : Record). r .sequence) rs
+    → ((r : Record) → List·Memᴰ r rs → List·Memᴰ r (waitingOf (x .log .slots)))
+    → performAll (sends rs) x ≡ withServer (applyAll rs (x .server)) (withLog (sentAll rs (x .log)) x)
+unfolding performAll perform applyAll sentAll
+sends-performed n b m [] x w rise all = refl
+sends-performed n b m (r ∷ rs) x w rise all =
+    let l = x .log in
+    let q = r .sequence in
+    let e : waitingAt q l ≡ some r = waiting-at n b m l w (all r (List·Memᴰ·head refl)) in
+    let t = sent-waiting q l r e in
+    let y = withServer (apply (x .server) (r .operation)) (withLog (Change.sent q l) x) in
+    let others : (a : Record) → List·Memᴰ a rs → List·Memᴰ a (waitingOf (Change.sent q l .slots)) =
+    λ a k. subst (λ (z : List Record). List·Memᴰ a z) (sym (t .3))
+    (around (t .0) (t .1) r a (subst (λ (z : List Record). List·Memᴰ a z) (t .2) (all a (List·Memᴰ·tail k)))
+    (λ i. let lt = rise .0 a k in let j : a .sequence ≡ r .sequence = ap (λ (c : Record). c .sequence) i in omega arith)) in
+    ap (λ (f : Option Record). performAll (sends rs) (sentFound f x)) e ∙ sends-performed n b m rs y (sent-good n b m q l w) (rise .1) others
