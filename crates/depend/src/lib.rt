@@ -7,7 +7,7 @@ ghost use mathlib.Core.List.{List};
 ghost use Prim.Native.Nat.{ℕ, _<_};
 ghost use lib.ListN.{length};
 ghost use Rattle.log.specs.Stored.{encodeSlots, encodeLog, readLog};
-ghost use Rattle.log.specs.Depend.{noted};
+ghost use Rattle.log.specs.Depend.{reach, noted};
 ghost use Rattle.log.specs.Change.{note};
 ghost use Rattle.log.specs.Code.Slots.{slotsIn, Slotted, Logged};
 ghost use Rattle.log.specs.Code.Flags.{Holds};
@@ -38,6 +38,7 @@ pub fn note_slots(s: &mut [u8], program: usize, reached: &mut [u8; 256])
     requires { ⌜ program < 32 ⌝ }
     requires { ⌜ ((ops : List ℕ) × Holds (now reached) ops) ⌝ }
     ensures { λ r. ⌜ ((ops : List ℕ) → Holds (now (reached .entry)) ops → now (s .exit) ≡ encodeSlots (noted program ops (slotsIn (now (s .entry))))) ⌝ }
+    ensures { λ r. ⌜ ((ops : List ℕ) → Holds (now (reached .entry)) ops → Holds (now (reached .exit)) (reach ops (slotsIn (now (s .entry))))) ⌝ }
 {
     let mut i = s.len() / SLOT;
     while 0 < i {
@@ -52,6 +53,7 @@ pub fn note(log: &mut [u8], m: usize, program: usize, reached: &mut [u8; 256])
     requires { ⌜ program < 32 ⌝ }
     requires { ⌜ ((ops : List ℕ) × Holds (now reached) ops) ⌝ }
     ensures { λ r. ⌜ ((ops : List ℕ) → Holds (now (reached .entry)) ops → now (log .exit) ≡ encodeLog m (note program ops (readLog m (now (log .entry))))) ⌝ }
+    ensures { λ r. ⌜ ((ops : List ℕ) → Holds (now (reached .entry)) ops → Holds (now (reached .exit)) (reach ops (readLog m (now (log .entry)) .slots))) ⌝ }
 {
     let end = HEAD + used(log, m) * SLOT;
     note_slots(&mut log[HEAD..end], program, reached);

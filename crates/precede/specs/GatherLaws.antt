@@ -128,7 +128,7 @@ wait-behind (f ∷ fs) gs (s ∷ l) e w = (w .0, wait-behind fs gs l (omega arit
 
 -- of all slots those are found that are needed
 pub gathered-needed : (o : ℕ) (l : List Slot) → Rising sequenceOf l → (n : ℕ) → n ≡ length l → (objects before after : List ℕ) (r : ℕ) → Holds objects (o ∷ [])
-    → Gathered (take n l) objects before after r → (chosen after l ≡ needed o (waitingOf l)) × (AllWait after l × (r ≡ length (needed o (waitingOf l))))
+    → Gathered (take n l) objects before after r → (chosen after l ≡ needed o (waitingOf l)) × (AllWait after l × ((r ≡ length (needed o (waitingOf l))) × (after ≡ reached (o ∷ []) l ++ drop (length l) before)))
 gathered-needed o l rise n all objects before after r held k =
     let g : Gathered l objects before after r = rw (all, take-length l) at k in
     let fs = reached (o ∷ []) l in
@@ -136,5 +136,5 @@ gathered-needed o l rise n all objects before after r held k =
     let w = reached-length (o ∷ []) l in
     let e = g .flags (o ∷ []) held in (
       ap (λ (x : List ℕ). chosen x l) e ∙ chosen-behind fs gs l w ∙ needed-reached o l rise,
-      (rw e (wait-behind fs gs l w (reached-wait (o ∷ []) l)), g .count (o ∷ []) held ∙ ap length (needed-reached o l rise)),
+      (rw e (wait-behind fs gs l w (reached-wait (o ∷ []) l)), (g .count (o ∷ []) held ∙ ap length (needed-reached o l rise), e)),
     )

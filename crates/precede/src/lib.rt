@@ -2,8 +2,9 @@
 // of a slot, which are the slots before a position, by recursion: "the candidate's sequence number falls at each call". A call
 // tries a run of up to 16 candidates, so at most m / 16 + 1 calls, rounded up, stand inside each other: 65 at m = 1,024.
 ghost use mathlib.Core.Path.{_≡_};
+ghost use mathlib.Core.List.{[], _∷_, _++_};
 ghost use Prim.Native.Nat.{_-_, _≤_, _<_};
-ghost use lib.ListN.{length, take};
+ghost use lib.ListN.{length, take, drop};
 ghost use lib.Seq.{slice};
 ghost use Rattle.records.specs.Operation.{Operation};
 ghost use Rattle.log.specs.Slot.{sequenceOf};
@@ -11,7 +12,7 @@ ghost use Rattle.log.specs.Order.{preceded, needed};
 ghost use Rattle.log.specs.Change.{waitingOf};
 ghost use Rattle.log.specs.OrderLaws.{Rising};
 ghost use Rattle.log.specs.Code.Slots.{slotsIn, slotAt, Slotted};
-ghost use Rattle.log.specs.Code.Flags.{chosen, AllWait};
+ghost use Rattle.log.specs.Code.Flags.{chosen, reached, AllWait};
 ghost use Rattle.operands.specs.Code.Ordering.{Ordering, Sized};
 ghost use Rattle.precede.specs.Code.Candidates.{waitsBefore, someBefore, RunGathered, Gathered};
 use depend::reach::reach_slot;
@@ -135,6 +136,7 @@ pub fn needed(s: &[u8], object: usize, found: &mut [u8]) -> usize
     ensures these { λ r. ⌜ chosen (now (found .exit)) (slotsIn (now (s .entry))) ≡ needed object (waitingOf (slotsIn (now (s .entry)))) ⌝ }
     ensures wait { λ r. ⌜ AllWait (now (found .exit)) (slotsIn (now (s .entry))) ⌝ }
     ensures count { λ r. ⌜ r ≡ length (needed object (waitingOf (slotsIn (now (s .entry))))) ⌝ }
+    ensures flags { λ r. ⌜ now (found .exit) ≡ reached (object ∷ []) (slotsIn (now (s .entry))) ++ drop (length (slotsIn (now (s .entry)))) (now (found .entry)) ⌝ }
 {
     let mut reached = one(object);
     gather(s, s.len() / SLOT, &mut reached, found)

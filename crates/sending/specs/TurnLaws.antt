@@ -4,11 +4,13 @@ use Prim.Native.Nat.{ℕ, zero, suc, _+_, _-_, _<_}
 use native.Mathlib.Omega.{arith}
 use native.Mathlib.Numerals.{add-one}
 use mathlib.Core.Path.{_≡_, refl, sym, ap, _∙_}
+use mathlib.Core.Logic.{_⊎_, inl, inr}
 use mathlib.Core.List.{List, [], _∷_, _++_, append-assoc, append-nil}
 use mathlib.Core.Bool.{Bool, true, false, cond, false≢true}
-use lib.ListN.{length, take, drop, set, length-append, length-set}
-use lib.Seq.{drop-length, take-set-le, getD-set-same}
+use lib.ListN.{length, getD, take, drop, set, length-append, length-set}
+use lib.Seq.{drop-length, take-set-le, getD-set-same, getD-set-other}
 use lib.Dec.{eqb}
+use borrow.Author.Tests.{eqb-true, eqb-false}
 use Rattle.records.specs.Operation.{Record}
 use Rattle.search.specs.Volume.{Volume}
 use Rattle.search.specs.Stored.{encodeVolume, readVolume}
@@ -21,7 +23,7 @@ use Rattle.log.specs.Sends.{applying, applyAll}
 use Rattle.log.specs.Code.Flags.{stands, chosen, AllWait}
 use Rattle.log.specs.Code.Slots.{slotAt}
 use Rattle.sending.specs.declared.Tally.{Tally}
-use Rattle.sending.specs.Code.Sends.{tally, Turn, passed, went, stopped, SentFound, sendable}
+use Rattle.sending.specs.Code.Sends.{tally, Turn, passed, went, stopped, Left, SentFound, sendable}
 use Rattle.sending.specs.SendLaws.{sendable-first, sendable-count, sendable-none, applied-formed, applied-read}
 
 -- the records chosen before a position, and from it on
@@ -93,12 +95,25 @@ pub record Sending (n b k : ℕ) (l : List Slot) (v : Volume) (found : List ℕ)
   pub count : t .sent ≡ length (chosenTo kept l i)
   pub all : chosenTo kept l i ++ sendable (t .most - t .sent) (chosenFrom kept l i) (readVolume n b s) ≡ sendable k (chosen found l) v
   pub waits : AllWait found l → AllWait kept l
+  pub others : Left found l kept
+
+-- One more slot taken out of the set.
+left-set : (found : List ℕ) (l : List Slot) (kept : List ℕ) → Left found l kept → (i : ℕ) → i < length l → i < length kept → stands kept i ≡ true → Left found l (set kept i 0)
+left-set found l kept h i k g on j = go (eqb j i) refl
+  where
+    here : (getD kept i 0 ≡ getD found i 0) ⊎ ((i < length l) × (stands found i ≡ true) × (getD kept i 0 ≡ 0)) → stands found i ≡ true
+    here (inl e) = ap (λ (x : ℕ). eqb x 1) (sym e) ∙ on
+    here (inr z) = z .1
+
+    go : (t : Bool) → eqb j i ≡ t → (getD (set kept i 0) j 0 ≡ getD found j 0) ⊎ ((j < length l) × (stands found j ≡ true) × (getD (set kept i 0) j 0 ≡ 0))
+    go true e = let z : j ≡ i = eqb-true j i e in rw z (inr (k, here (h i), getD-set-same kept i 0 0 g))
+    go false e = rw (getD-set-other kept i j 0 0 (eqb-false j i e)) (h j)
 
 module _ (n b k : ℕ) (l : List Slot) (v : Volume) (found : List ℕ) where
   -- Before the first turn nothing was sent.
   pub sending-first : (s : List ℕ) → Formed n b s → readVolume n b s ≡ v → Sending n b k l v found 0 s found (tally 0 k)
   unfolding chosen applyAll
-  sending-first s f e = let m : k - 0 ≡ k = omega arith in record { formed = f; server = e; count = refl; all = rw m (ap (sendable k (chosen found l)) e); waits = λ h. h }
+  sending-first s f e = let m : k - 0 ≡ k = omega arith in record { formed = f; server = e; count = refl; all = rw m (ap (sendable k (chosen found l)) e); waits = λ h. h; others = λ j. inl refl }
 
   -- After the last turn all was sent that can be.
   pub sending-last : (i : ℕ) → i ≡ length l → (s kept : List ℕ) (t : Tally) → Sending n b k l v found i s kept t → SentFound b k l v found s kept (t .sent)
@@ -114,6 +129,7 @@ module _ (n b k : ℕ) (l : List Slot) (v : Volume) (found : List ℕ) where
         server = sym (x .formed .stored) ∙ ap (encodeVolume b) (x .server ∙ ap (λ (rs : List Record). applyAll rs v) q);
         first = sym c ∙ q;
         waits = x .waits;
+        others = x .others;
       }
 
   module _ (good : goodSlots n b l ≡ true) (i : ℕ) (s kept : List ℕ) (t : Tally) (x : Sending n b k l v found i s kept t) (h : i < length l) (g : i < length kept) where
@@ -129,7 +145,7 @@ module _ (n b k : ℕ) (l : List Slot) (v : Volume) (found : List ℕ) where
     after-passed off =
         let c : chosenTo kept l (i + 1) ≡ chosenTo kept l i = rw (add-one, chosen-next kept l i g h, off) in
         let d : chosenFrom kept l i ≡ chosenFrom kept l (i + 1) = chosen-at kept l i g h ∙ rw off in
-        record { formed = x .formed; server = rw c (x .server); count = rw c (x .count); all = rw (c, ← d) (x .all); waits = x .waits }
+        record { formed = x .formed; server = rw c (x .server); count = rw c (x .count); all = rw (c, ← d) (x .all); waits = x .waits; others = x .others }
 
     -- it was sent
     after-went : stands kept i ≡ true → t .sent < t .most → applies w (r .operation) ≡ true
@@ -148,6 +164,7 @@ module _ (n b k : ℕ) (l : List Slot) (v : Volume) (found : List ℕ) where
           count = let u = x .count in rw (c, length-append) (omega arith);
           all = rw (c, a, append-assoc) (ap (λ (y : List Record). chosenTo kept l i ++ y) (sym o) ∙ x .all);
           waits = x .waits;
+          others = x .others;
         }
 
     -- it was not sent, and no later one will be
@@ -166,6 +183,7 @@ module _ (n b k : ℕ) (l : List Slot) (v : Volume) (found : List ℕ) where
           count = rw c (x .count);
           all = rw (c, m) (ap (λ (y : List Record). chosenTo kept l i ++ y) (sym o) ∙ x .all);
           waits = λ y. waits-set kept l i (x .waits y);
+          others = left-set found l kept (x .others) i h g on;
         }
 
     -- Each turn goes on to the next slot.

@@ -73,11 +73,13 @@ same-length c =
     ap length (x .1) ∙ n ∙ omega (arith, partly-length (a .program) (o .0) (slotsIn (a .s .now)) (l .loop .i) k, slotted-length (a .s .now) (t .pre .0))
 
 returns : tie.Need-returns Inv-loop μ-loop
-returns c ops k =
+returns c =
     let l = c .before in
     let a = l .before .before .args in
-    let e : l .loop .i ≡ 0 = omega arith in
-    l .loop .inv .1 ops k .1 ∙ ap (λ (i : ℕ). encodeSlots (partly (a .program) ops (slotsIn (a .s .now)) i)) e
+    let e : l .loop .i ≡ 0 = omega arith in (
+      λ ops k. l .loop .inv .1 ops k .1 ∙ ap (λ (i : ℕ). encodeSlots (partly (a .program) ops (slotsIn (a .s .now)) i)) e,
+      λ ops k. subst (λ (i : ℕ). Holds (l .loop .reached) (reach ops (drop i (slotsIn (a .s .now))))) e (l .loop .inv .1 ops k .0),
+    )
 
 pub note-slots-spec : {M : Type 1} → statement M
 note-slots-spec =

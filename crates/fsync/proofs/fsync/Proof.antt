@@ -106,8 +106,8 @@ free-sent-requires c κs =
     let e = lent-slots (a .n) (a .b) (a .m) (a .log .now) u (y .used .result) q in
     let l = readLog (a .m) (a .log .now) in
     let v = readVolume (a .n) (a .b) (a .server .now) in
-    let h = counted (a .b) (a .k) (a .object) v l _ (f .send-found .last .0) (w .needed .last .1 .1 .0) (f .send-found .last .1 .1 .1 .1 .0) (f .send-found .result) (w .needed .result) e
-    (w .needed .ensures .0) (w .needed .ensures .1 .0) (w .needed .ensures .1 .1) (f .send-found .ensures) in
+    let h = counted (a .b) _ (a .object) v l _ (f .send-found .last .0) (w .needed .last .1 .1 .0) (f .send-found .last .1 .1 .1 .1 .0) (f .send-found .result) (w .needed .result) e
+    (w .needed .ensures .0) (w .needed .ensures .1 .0) (w .needed .ensures .1 .1 .0) (f .send-found .ensures) in
     ((logged-most (a .n) (a .b) (a .m) (a .log .now) u), (room-kept {j = 1024} (search needs) (omega (arith, used-most (a .n) (a .b) (a .m) (a .log .now) u, u .most)), h .waits))
 
 same-length : tie.Need-same-length
@@ -130,7 +130,7 @@ returns c =
     let l = readLog (a .m) (a .log .now) in
     let v = readVolume (a .n) (a .b) (a .server .now) in
     let h = counted (a .b) (a .k) (a .object) v l _ (f .send-found .last .0) (w .needed .last .1 .1 .0) (f .send-found .last .1 .1 .1 .1 .0) (f .send-found .result) (w .needed .result) e
-    (w .needed .ensures .0) (w .needed .ensures .1 .0) (w .needed .ensures .1 .1) (f .send-found .ensures) in
+    (w .needed .ensures .0) (w .needed .ensures .1 .0) (w .needed .ensures .1 .1 .0) (f .send-found .ensures) in
     let i = c .before .before .before .before .before in
     stopped (a .b) (a .k) (a .program) (a .object) (a .m) v l (f .send-found .last .0) (f .send-found .last .1 .1 .1 .1 .0) (f .send-found .result) (w .needed .result) h (omega (arith, i .before .least .ensures, i .if1 .taken)) (g .free-sent .last .0) (g .free-sent .ensures)
 
@@ -147,7 +147,7 @@ note-requires c κs =
     let u = t .pre .1 .0 in
     let q = y .used .ensures .1 (a .n) (a .b) u in
     let e = lent-slots (a .n) (a .b) (a .m) (a .log .now) u (y .used .result) q in
-    ((logged-most (a .n) (a .b) (a .m) (a .log .now) u), (t .pre .1 .1 .0, (a .object ∷ [], c .before .before .one .ensures)))
+    ((logged-most (a .n) (a .b) (a .m) (a .log .now) u), (t .pre .1 .1 .0, (_, c .before .before .one .ensures)))
 
 slice-aggregate-free-sent-2 : tie.Need-slice-aggregate-free-sent-2
 slice-aggregate-free-sent-2 c = search needs
@@ -165,9 +165,9 @@ free-sent-requires-2 c κs =
     let l = readLog (a .m) (a .log .now) in
     let v = readVolume (a .n) (a .b) (a .server .now) in
     let h = counted (a .b) (a .k) (a .object) v l _ (f .send-found .last .0) (w .needed .last .1 .1 .0) (f .send-found .last .1 .1 .1 .1 .0) (f .send-found .result) (w .needed .result) e
-    (w .needed .ensures .0) (w .needed .ensures .1 .0) (w .needed .ensures .1 .1) (f .send-found .ensures) in
+    (w .needed .ensures .0) (w .needed .ensures .1 .0) (w .needed .ensures .1 .1 .0) (f .send-found .ensures) in
     let x = c .before .before .before .before in
-    let z = x .note .ensures (a .object ∷ []) (x .before .before .before .one .ensures) in
+    let z = x .note .ensures .0 (a .object ∷ []) (x .before .before .before .one .ensures) in
     let r : length (f .send-found .last .1 .1 .1 .1 .0) ≡ 1024 = sym (slice-aggregate-free-sent-2 c) in
     (noted-logged (a .b) (a .k) (a .program) (a .object) (a .m) v l (f .send-found .last .0) (f .send-found .last .1 .1 .1 .1 .0) (f .send-found .result) (w .needed .result) h (a .log .now) (logged-most (a .n) (a .b) (a .m) (a .log .now) u) refl (t .pre .1 .1 .0) (x .note .last .0) z, (room-kept {j = 1024} r (omega (arith, used-most 256 64 (a .m) (x .note .last .0) (noted-logged (a .b) (a .k) (a .program) (a .object) (a .m) v l (f .send-found .last .0) (f .send-found .last .1 .1 .1 .1 .0) (f .send-found .result) (w .needed .result) h (a .log .now) (logged-most (a .n) (a .b) (a .m) (a .log .now) u) refl (t .pre .1 .1 .0) (x .note .last .0) z), u .most)), noted-waits (a .b) (a .k) (a .program) (a .object) (a .m) v l (f .send-found .last .0) (f .send-found .last .1 .1 .1 .1 .0) (f .send-found .result) (w .needed .result) h (a .log .now) (logged-most (a .n) (a .b) (a .m) (a .log .now) u) refl (t .pre .1 .1 .0) (x .note .last .0) z))
 
@@ -191,9 +191,9 @@ returns-2 c =
     let l = readLog (a .m) (a .log .now) in
     let v = readVolume (a .n) (a .b) (a .server .now) in
     let h = counted (a .b) (a .k) (a .object) v l _ (f .send-found .last .0) (w .needed .last .1 .1 .0) (f .send-found .last .1 .1 .1 .1 .0) (f .send-found .result) (w .needed .result) e
-    (w .needed .ensures .0) (w .needed .ensures .1 .0) (w .needed .ensures .1 .1) (f .send-found .ensures) in
+    (w .needed .ensures .0) (w .needed .ensures .1 .0) (w .needed .ensures .1 .1 .0) (f .send-found .ensures) in
     let x = c .before .before .before .before .before .before .before .before in
-    let z = x .note .ensures (a .object ∷ []) (x .before .before .before .one .ensures) in
+    let z = x .note .ensures .0 (a .object ∷ []) (x .before .before .before .one .ensures) in
     let i = c .before .before .before .before .before .before .before .before .before .before .before .before in
     carried (a .b) (a .k) (a .program) (a .object) (a .m) v l (f .send-found .last .0) (f .send-found .last .1 .1 .1 .1 .0) (f .send-found .result) (w .needed .result) h (omega (arith, i .before .least .ensures, i .if1 .left)) (c .if2 .taken) (g .free-sent2 .last .0)
     (freed (a .b) (a .k) (a .program) (a .object) (a .m) v l (f .send-found .last .0) (f .send-found .last .1 .1 .1 .1 .0) (f .send-found .result) (w .needed .result) h (a .log .now) (logged-most (a .n) (a .b) (a .m) (a .log .now) u) refl (t .pre .1 .1 .0) (x .note .last .0) z (g .free-sent2 .last .0) (g .free-sent2 .ensures))
@@ -212,9 +212,9 @@ discard-requires c κs =
     let l = readLog (a .m) (a .log .now) in
     let v = readVolume (a .n) (a .b) (a .server .now) in
     let h = counted (a .b) (a .k) (a .object) v l _ (f .send-found .last .0) (w .needed .last .1 .1 .0) (f .send-found .last .1 .1 .1 .1 .0) (f .send-found .result) (w .needed .result) e
-    (w .needed .ensures .0) (w .needed .ensures .1 .0) (w .needed .ensures .1 .1) (f .send-found .ensures) in
+    (w .needed .ensures .0) (w .needed .ensures .1 .0) (w .needed .ensures .1 .1 .0) (f .send-found .ensures) in
     let x = c .before .before .before .before .before .before .before .before .before in
-    let z = x .note .ensures (a .object ∷ []) (x .before .before .before .one .ensures) in
+    let z = x .note .ensures .0 (a .object ∷ []) (x .before .before .before .one .ensures) in
     freed-logged (a .b) (a .k) (a .program) (a .object) (a .m) v l (f .send-found .last .0) (f .send-found .last .1 .1 .1 .1 .0) (f .send-found .result) (w .needed .result) h (a .log .now) (logged-most (a .n) (a .b) (a .m) (a .log .now) u) refl (t .pre .1 .1 .0) (x .note .last .0) z (g .free-sent2 .last .0) (g .free-sent2 .ensures)
 
 same-length-5 : tie.Need-same-length-5
@@ -238,9 +238,9 @@ returns-3 c =
     let l = readLog (a .m) (a .log .now) in
     let v = readVolume (a .n) (a .b) (a .server .now) in
     let h = counted (a .b) (a .k) (a .object) v l _ (f .send-found .last .0) (w .needed .last .1 .1 .0) (f .send-found .last .1 .1 .1 .1 .0) (f .send-found .result) (w .needed .result) e
-    (w .needed .ensures .0) (w .needed .ensures .1 .0) (w .needed .ensures .1 .1) (f .send-found .ensures) in
+    (w .needed .ensures .0) (w .needed .ensures .1 .0) (w .needed .ensures .1 .1 .0) (f .send-found .ensures) in
     let x = c .before .before .before .before .before .before .before .before .before .before .before .before in
-    let z = x .note .ensures (a .object ∷ []) (x .before .before .before .one .ensures) in
+    let z = x .note .ensures .0 (a .object ∷ []) (x .before .before .before .one .ensures) in
     let i = c .before .before .before .before .before .before .before .before .before .before .before .before .before .before .before .before in
     fell (a .b) (a .k) (a .program) (a .object) (a .m) v l (f .send-found .last .0) (f .send-found .last .1 .1 .1 .1 .0) (f .send-found .result) (w .needed .result) h (omega (arith, i .before .least .ensures, i .if1 .left)) (omega (arith, k .before .before .if2 .left)) (k .discard .last .0)
     (cut-after (a .b) (a .k) (a .program) (a .object) (a .m) v l (f .send-found .last .0) (f .send-found .last .1 .1 .1 .1 .0) (f .send-found .result) (w .needed .result) h (a .log .now) (logged-most (a .n) (a .b) (a .m) (a .log .now) u) refl (t .pre .1 .1 .0) (x .note .last .0) z (g .free-sent2 .last .0) (g .free-sent2 .ensures) (k .discard .last .0) (k .discard .ensures))

@@ -147,7 +147,7 @@ returns c l r h =
     record {
       gives = g;
       log = issued-all (a .n) (a .b) (a .m) (a .log .now) l r d (a .used) (a .program) (q .next-number .result) (h .place) (h .issuer) g (n .note-slots .last .0) (o .open-slot .last .0) (z .put-four .last .0)
-          (n .note-slots .ensures _ (y .add .ensures (r .operation) [] w (e .none .ensures))) (o .open-slot .ensures) (z .put-four .ensures .placed);
+          (n .note-slots .ensures .0 _ (y .add .ensures (r .operation) [] w (e .none .ensures))) (o .open-slot .ensures) (z .put-four .ensures .placed);
       view = v .apply-record .ensures r (record { rest = _; bytes = draft-part (a .n) (a .b) (a .m) (a .log .now) l r d (a .used) (h .place) }) (h .able);
     }
 

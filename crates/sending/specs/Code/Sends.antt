@@ -1,9 +1,10 @@
 -- What is known after one operation of a log was to be sent, after each turn of a set of them, and after them all.
 use Prim.Native.Nat.{ℕ, zero, suc, _+_, _<_}
 use mathlib.Core.Path.{_≡_}
+use mathlib.Core.Logic.{_⊎_}
 use mathlib.Core.List.{List, [], _∷_}
 use mathlib.Core.Bool.{Bool, true, false, cond}
-use lib.ListN.{set, take}
+use lib.ListN.{length, getD, set, take}
 use Rattle.records.specs.Operation.{Operation, Record}
 use Rattle.search.specs.Volume.{Volume}
 use Rattle.search.specs.Stored.{encodeVolume}
@@ -40,6 +41,10 @@ pub data Turn (b : ℕ) (v : Volume) (o : Operation) (i : ℕ) (found : List ℕ
   stopped : stands found i ≡ true → (t .sent < t .most → applies v o ≡ false) → s ≡ encodeVolume b v
       → kept ≡ set found i 0 → r ≡ tally (t .sent) (t .sent) → Turn b v o i found t s kept r
 
+-- a set from which some slots were taken out: every other byte is as before
+abbrev pub Left : List ℕ → List Slot → List ℕ → Type 0
+Left found l kept = (j : ℕ) → (getD kept j 0 ≡ getD found j 0) ⊎ ((j < length l) × (stands found j ≡ true) × (getD kept j 0 ≡ 0))
+
 -- "Fsync's counted sends within k": of the operations in a set the first that apply, at most k, are sent, and just those are
 -- left in the set
 pub record SentFound (b k : ℕ) (l : List Slot) (v : Volume) (found : List ℕ) (s kept : List ℕ) (r : ℕ) : Type 0 where
@@ -47,6 +52,7 @@ pub record SentFound (b k : ℕ) (l : List Slot) (v : Volume) (found : List ℕ)
   pub server : s ≡ encodeVolume b (applyAll (take r (chosen found l)) v)
   pub first : chosen kept l ≡ take r (chosen found l)
   pub waits : AllWait found l → AllWait kept l
+  pub others : Left found l kept
 
 -- "Push sends the waiting operation of a given sequence number and frees its slot"; where it does not apply nothing changes
 pub record Pushed (b m : ℕ) (v : Volume) (l : Log) (i : ℕ) (before after : List ℕ) (s : List ℕ) (r : Bool) : Type 0 where
