@@ -26,7 +26,7 @@ use Rattle.log.specs.Code.Slots.{slotsIn, Slotted, Logged, usedIn}
 use Rattle.log.specs.ChangeLaws.{noted-good, noted-length}
 use Rattle.slots.specs.SlotLaws.{head-limits}
 use Rattle.issuing.specs.Code.Draft.{drafted, Draft}
-use Rattle.issuing.specs.Code.Issued.{Issuable, Room, issuedLog, Ready}
+use Rattle.issuing.specs.Code.Issued.{Kept, Issuable, Room, issuedLog, Placed, Ready}
 use Rattle.search.specs.Volume.{Volume}
 use Rattle.writer.specs.Code.Writer.{Writable, Written}
 
@@ -219,8 +219,8 @@ module _ (n b m : ℕ) (s : List ℕ) (u : Logged n b m s) (r : Record) (sound :
       ∙ append-assoc (encodeHead l) (encodeSlots (l .slots) ++ replicate lossAt 0) (padded recordBytes (encode r) ++ behind)
       ∙ ap (λ (q : List ℕ). encodeHead l ++ q) (append-assoc (encodeSlots (l .slots)) (replicate lossAt 0) (padded recordBytes (encode r) ++ behind))
 
--- What was written where the record of the first free slot stands may be issued.
-module _ (n b m : ℕ) (s : List ℕ) (u : Logged n b m s) (room : Room m s) (v : Volume) (k : ℕ) (e : k ≡ usedIn m s) where
+-- A record written where that of the first free slot stands.
+module _ (n b m : ℕ) (s : List ℕ) (u : Logged n b m s) (room : Room m s) (k : ℕ) (e : k ≡ usedIn m s) where
   -- There is room for any valid record.
   pub record-room : (r : Record) → valid r ≡ true → Writable r (take (headBytes + k * slotBytes + slotBytes - (headBytes + k * slotBytes + lossAt)) (drop (headBytes + k * slotBytes + lossAt) s))
   record-room r h =
@@ -229,10 +229,11 @@ module _ (n b m : ℕ) (s : List ℕ) (u : Logged n b m s) (room : Room m s) (v 
       let i : length (take (headBytes + k * slotBytes + slotBytes - (headBytes + k * slotBytes + lossAt)) (drop (headBytes + k * slotBytes + lossAt) s)) ≡ recordBytes = simp (length-take, length-drop) (omega arith) in
       record { sound = h; room = omega (arith, i, encode-length r h .1) }
 
-  pub ready : (p : ℕ) (r q : Record) → r ≡ q → Issuable n b v q → q .sequence ≡ readLog m s .next → q .program ≡ p → (x : List ℕ) (c : ℕ)
+  -- What was written there stands in the first free slot.
+  pub placed : (p : ℕ) (r q : Record) → r ≡ q → Kept n b q → q .sequence ≡ readLog m s .next → q .program ≡ p → (x : List ℕ) (c : ℕ)
       → Written r (take (headBytes + k * slotBytes + slotBytes - (headBytes + k * slotBytes + lossAt)) (drop (headBytes + k * slotBytes + lossAt) s)) x c
-      → Ready n b m k p (take (headBytes + k * slotBytes + lossAt) s ++ (x ++ drop (headBytes + k * slotBytes + slotBytes - (headBytes + k * slotBytes + lossAt)) (drop (headBytes + k * slotBytes + lossAt) s))) v (readLog m s) q
-  ready p r q is able first issuer x c w =
+      → Placed n b m k p (take (headBytes + k * slotBytes + lossAt) s ++ (x ++ drop (headBytes + k * slotBytes + slotBytes - (headBytes + k * slotBytes + lossAt)) (drop (headBytes + k * slotBytes + lossAt) s))) (readLog m s) q
+  placed p r q is kept first issuer x c w =
       let i : headBytes + k * slotBytes + slotBytes - (headBytes + k * slotBytes + lossAt) ≡ recordBytes = omega arith in
       let j : headBytes + k * slotBytes + lossAt ≡ headBytes + usedIn m s * slotBytes + lossAt = omega arith in
       let h : x ≡ encode q ++ drop (length (encode q)) (take recordBytes (drop (headBytes + usedIn m s * slotBytes + lossAt) s)) = rw (← is, ← i, ← j) (w .held) in
@@ -245,12 +246,17 @@ module _ (n b m : ℕ) (s : List ℕ) (u : Logged n b m s) (room : Room m s) (v 
               form = u .form;
               room = room .0;
               numbers = room .1;
-              sound = able .sound;
-              fit = able .fit;
+              sound = kept .sound;
+              fit = kept .fit;
               first = first;
-              held = rw (i, j) (written n b m s u q (able .sound) (room .0) x h);
+              held = rw (i, j) (written n b m s u q (kept .sound) (room .0) x h);
             };
         place = e;
         issuer = issuer;
-        able = able;
       }
+
+  -- And may be issued where it applies to the view.
+  pub ready : (v : Volume) (p : ℕ) (r q : Record) → r ≡ q → Issuable n b v q → q .sequence ≡ readLog m s .next → q .program ≡ p → (x : List ℕ) (c : ℕ)
+      → Written r (take (headBytes + k * slotBytes + slotBytes - (headBytes + k * slotBytes + lossAt)) (drop (headBytes + k * slotBytes + lossAt) s)) x c
+      → Ready n b m k p (take (headBytes + k * slotBytes + lossAt) s ++ (x ++ drop (headBytes + k * slotBytes + slotBytes - (headBytes + k * slotBytes + lossAt)) (drop (headBytes + k * slotBytes + lossAt) s))) v (readLog m s) q
+  ready v p r q is able first issuer x c w = record { placed = placed p r q is (record { sound = able .sound; fit = able .fit }) first issuer x c w; able = able }

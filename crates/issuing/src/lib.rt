@@ -13,7 +13,7 @@ ghost use Rattle.applies.specs.Apply.{apply};
 ghost use Rattle.log.specs.Programs.{with};
 ghost use Rattle.log.specs.Slot.{Log};
 ghost use Rattle.log.specs.Stored.{lossAt};
-ghost use Rattle.issuing.specs.Code.Issued.{Issuable, Begins, Ready, Issued};
+ghost use Rattle.issuing.specs.Code.Issued.{Issuable, Begins, Placed, Ready, Waits, Issued};
 use buffer::put::put_four;
 use depend::note_slots;
 use operands::order::order_of;
@@ -52,6 +52,23 @@ fn open_slot(log: &mut [u8], at: usize, program: usize)
     put_four(log, next, with_program(0, program));
 }
 
+// The log's part of issuing the operation whose record stands in the first free slot; its sequence number.
+pub fn issue_log(log: &mut [u8], n: usize, b: usize, m: usize, used: usize, program: usize) -> usize
+    requires { ⌜ ((l : Log) × (r : Record) × Placed n b m used program (now log) l r) ⌝ }
+    ensures { λ x. ⌜ ((l : Log) (r : Record) → Placed n b m used program (now (log .entry)) l r → Waits m x (now (log .exit)) l r) ⌝ }
+{
+    let next = next_number(log, m);
+    let at = HEAD + used * SLOT;
+    let start = at + LOSS_AT;
+    let end = at + SLOT;
+    let mut reached = none();
+    add(&mut reached, order_of(&log[start..end]));
+    note_slots(&mut log[HEAD..at], program, &mut reached);
+    open_slot(log, at, program);
+    put_four(log, 0, next + 1);
+    next
+}
+
 // Issues the operation whose record stands in the first free slot; its sequence number.
 pub fn issue(
     log: &mut [u8],
@@ -66,15 +83,9 @@ pub fn issue(
     requires { ⌜ ((l : Log) × (r : Record) × Ready n b m used program (now log) (readVolume n b (now view)) l r) ⌝ }
     ensures { λ x. ⌜ ((l : Log) (r : Record) → Ready n b m used program (now (log .entry)) (readVolume n b (now (view .entry))) l r → Issued n b m x (now (log .exit)) (now (view .exit)) (readVolume n b (now (view .entry))) l r) ⌝ }
 {
-    let next = next_number(log, m);
     let at = HEAD + used * SLOT;
     let start = at + LOSS_AT;
     let end = at + SLOT;
     apply_record(view, n, b, &log[start..end]);
-    let mut reached = none();
-    add(&mut reached, order_of(&log[start..end]));
-    note_slots(&mut log[HEAD..at], program, &mut reached);
-    open_slot(log, at, program);
-    put_four(log, 0, next + 1);
-    next
+    issue_log(log, n, b, m, used, program)
 }

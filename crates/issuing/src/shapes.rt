@@ -8,8 +8,9 @@ ghost use Rattle.search.specs.Code.Lent.{Formed};
 ghost use Rattle.log.specs.Stored.{readLog};
 ghost use Rattle.log.specs.Code.Slots.{Logged};
 ghost use Rattle.writer.specs.Code.Writer.{entryRecord, renameRecord, rangeRecord, lengthRecord, forderRecord};
-ghost use Rattle.issuing.specs.Code.Issued.{Issuable, Room, Issued};
+ghost use Rattle.issuing.specs.Code.Issued.{Kept, Issuable, Room, Waits, Issued};
 use crate::issue;
+use crate::issue_log;
 use records::kind::Kind;
 use slots::HEAD;
 use slots::LOSS_AT;
@@ -162,10 +163,9 @@ pub fn issue_length(
     issue(log, view, n, b, m, used, program)
 }
 
-// Issues an operation of forder, whose list is "lent as 2 bytes an object".
+// Issues an operation of forder, whose list is "lent as 2 bytes an object": "forder's change to the view is none".
 pub fn issue_forder(
     log: &mut [u8],
-    view: &mut [u8],
     n: usize,
     b: usize,
     m: usize,
@@ -173,11 +173,10 @@ pub fn issue_forder(
     list: &[u8],
 ) -> usize
     requires { ⌜ Logged n b m (now log) ⌝ }
-    requires { ⌜ Formed n b (now view) ⌝ }
     requires { ⌜ Room m (now log) ⌝ }
     requires { ⌜ length (now list) % 2 ≡ 0 ⌝ }
-    requires { ⌜ Issuable n b (readVolume n b (now view)) (forderRecord (readLog m (now log) .next) program (now list)) ⌝ }
-    ensures { λ x. ⌜ Issued n b m x (now (log .exit)) (now (view .exit)) (readVolume n b (now (view .entry))) (readLog m (now (log .entry))) (forderRecord (readLog m (now (log .entry)) .next) program (now (list .entry))) ⌝ }
+    requires { ⌜ Kept n b (forderRecord (readLog m (now log) .next) program (now list)) ⌝ }
+    ensures { λ x. ⌜ Waits m x (now (log .exit)) (readLog m (now (log .entry))) (forderRecord (readLog m (now (log .entry)) .next) program (now (list .entry))) ⌝ }
 {
     let used = used(log, m);
     let next = next_number(log, m);
@@ -185,5 +184,5 @@ pub fn issue_forder(
     let start = at + LOSS_AT;
     let end = at + SLOT;
     write_forder(&mut log[start..end], next, program, list);
-    issue(log, view, n, b, m, used, program)
+    issue_log(log, n, b, m, used, program)
 }

@@ -25,3 +25,5 @@ pub mod RunLaws
 pub mod CouldLaws
 pub mod ClaimLaws
 pub mod DemandLaws
+pub mod Entries
+pub mod EntryLaws

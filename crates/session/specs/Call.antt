@@ -14,11 +14,17 @@ pub record Geometry : Type 0 where
   pub blocks : ℕ
   pub capacity : ℕ
 
+abbrev pub geometry : ℕ → ℕ → ℕ → Geometry
+geometry n b m = record { objects = n; blocks = b; capacity = m }
+
 -- "It lends a server volume, a view and a log."
 pub record Buffers : Type 0 where
   pub server : List ℕ
   pub view : List ℕ
   pub log : List ℕ
+
+abbrev pub buffers : List ℕ → List ℕ → List ℕ → Buffers
+buffers s v l = record { server = s; view = v; log = l }
 
 -- each call with a program is given its number; a text, list or data is its bytes; a lent buffer is its bytes before
 pub data Call : Type 0 where

@@ -15,17 +15,15 @@ use Rattle.log.specs.Order.{any}
 use Rattle.session.specs.Call.{Geometry, Call, remove, rename, write, setLength, forder, Answer, answer}
 use Rattle.session.specs.Issue.{displaced, issues}
 use Rattle.session.specs.Refusal.{Row, row}
-use Rattle.session.specs.Model.{Model, unless, badProgram, isMarked, isBad, isLong, outside, isFree, noSlots, noNumbers}
+use Rattle.session.specs.Model.{Model, unless, programRows, isBad, isLong, outside, isFree, roomFor}
 
 -- room for what the call issues: "m slots used", "next number is 4,294,967,295"
 abbrev pub roomRows : Geometry → Call → Model → List Row
-roomRows g c x =
-    let k = length (issues (x .view) c) in
-    noSlots g (x .log) k ∷ noNumbers (x .log) k ∷ []
+roomRows g c x = roomFor g (x .log) (length (issues (x .view) c))
 
 -- a change is refused by its table, or "gives its sequence number"
 abbrev pub changed : Geometry → Call → ℕ → List Row → Model → Answer
-changed g c p rows x = unless c (badProgram p ∷ isMarked (x .log) p ∷ (rows ++ roomRows g c x)) (answer Returned.accepted (x .log .next ∷ []) [])
+changed g c p rows x = unless c (programRows (x .log) p ++ (rows ++ roomRows g c x)) (answer Returned.accepted (x .log .next ∷ []) [])
 
 -- "Create and make directory take an unused object number from the caller."
 abbrev pub makeRows : Volume → ℕ → List ℕ → ℕ → List Row

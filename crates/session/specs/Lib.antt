@@ -7,6 +7,7 @@ pub mod Edit
 pub mod Effect
 pub mod Send
 pub mod Step
+pub mod Code
 pub mod Cases
 pub mod IssueLaws
 pub mod PossibleLaws
@@ -20,3 +21,5 @@ pub mod CallLaws
 pub mod StepLaws
 pub mod GeometryLaws
 pub mod AnswerLaws
+pub mod TableLaws
+pub mod OutcomeLaws

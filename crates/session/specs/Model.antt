@@ -1,6 +1,6 @@
 -- What a call works on: the two volumes and the log that the buffers store; and the conditions that most calls ask.
 use Prim.Native.Nat.{ℕ, _+_}
-use mathlib.Core.List.{List}
+use mathlib.Core.List.{List, [], _∷_}
 use mathlib.Core.Bool.{Bool, true, false, not, cond}
 use lib.ListN.{length}
 use lib.Dec.{ltb, eqb}
@@ -40,6 +40,10 @@ badProgram p = row Returned.badProgram (not (ltb p 32))
 abbrev pub isMarked : Log → ℕ → Row
 isMarked l p = row Returned.marked (holds (l .marks) p)
 
+-- what is asked of the program of a call, but for take and renew
+abbrev pub programRows : Log → ℕ → List Row
+programRows l p = badProgram p ∷ isMarked l p ∷ []
+
 -- "name or path text, other than length over 60"; "over 60 bytes"
 abbrev pub isBad : NameText → Bool
 isBad Fine = false
@@ -64,3 +68,7 @@ noSlots g l k = row Returned.logFull (ltb (g .capacity) (length (l .slots) + k))
 
 abbrev pub noNumbers : Log → ℕ → Row
 noNumbers l k = row Returned.spent (ltb 4294967295 (l .next + k))
+
+-- room for so many operations
+abbrev pub roomFor : Geometry → Log → ℕ → List Row
+roomFor g l k = noSlots g l k ∷ noNumbers l k ∷ []

@@ -1,15 +1,15 @@
 -- Document 01, "Calls": lookup, list, stat and read, which "answer from the view": what the questions answer, where the program may
 -- ask.
 use Prim.Native.Nat.{ℕ}
-use mathlib.Core.List.{List, [], _∷_}
+use mathlib.Core.List.{List, []}
 use Rattle.lookup.specs.Lookup.{lookupAnswer, reachedNumber, reachedResults}
 use Rattle.questions.specs.Answer.{listAnswer, listLeaves, listNumber, listResults, statAnswer, statNumber, statResults, readAnswer, readLeaves, readNumber, readResults}
 use Rattle.session.specs.Call.{Call, lookup, list, stat, read, Answer, answer}
-use Rattle.session.specs.Model.{Model, unless, badProgram, isMarked}
+use Rattle.session.specs.Model.{Model, unless, programRows}
 
 -- "3 Bad program", "4 Marked", then the question's own answer
 abbrev pub asked : Call → ℕ → Model → Answer → Answer
-asked c p x a = unless c (badProgram p ∷ isMarked (x .log) p ∷ []) a
+asked c p x a = unless c (programRows (x .log) p) a
 
 unfoldable pub lookupOf : ℕ → List ℕ → Model → Answer
 lookupOf p path x = let r = lookupAnswer (x .view) path in asked (lookup p path) p x (answer (reachedNumber r) (reachedResults r) [])

@@ -48,6 +48,10 @@ pub record Result : Type 0 where
   pub gives : Answer
   pub leaves : Buffers
 
+-- the returned number, the other results, the call's own buffer as it is left, and the three buffers as they are left
+abbrev pub given : ℕ → List ℕ → List ℕ → Buffers → Result
+given n r own s = record { gives = answer n r own; leaves = s }
+
 abbrev pub turnedDown : ℕ → Call → Buffers → Result
 turnedDown n c s = record { gives = refusal n c; leaves = s }
 

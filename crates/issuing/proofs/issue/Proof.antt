@@ -1,26 +1,9 @@
--- slot is opened behind them. Assumes nothing.
--- `issuing::issue` meets its contract: the record is applied where it stands, the used slots are noted as a part of the log, and the
+-- `issuing::issue` meets its contract: the record is applied where it stands, and then the log is changed. Assumes nothing.
 use native.Mathlib.Omega.{arith}
-use Prim.Native.Nat.{ℕ, _≤_}
-use mathlib.Core.Path.{_≡_, _∙_}
-use mathlib.Core.List.{[]}
-use lib.ListN.{length}
-use Rattle.slots.specs.SlotLaws.{head-limits}
-use Rattle.issuing.specs.DraftLaws.{draft-part, draft-slotted, draft-next, draft-long, issued-all}
+use Rattle.issuing.specs.DraftLaws.{draft-part, draft-long}
 use borrow.Author.Needs.{needs}
 use Rattle.issuing.proofs.issue.Statement.{statement}
 use Rattle.issuing.proofs.issue.Tie as tie
-
--- what has room in as many bytes has room in these
-room-kept : {k i j : ℕ} → i ≡ j → k ≤ j → k ≤ i
-room-kept e h = omega arith
-
-next-number-requires : tie.Need-next-number-requires
-next-number-requires c κs =
-    let t = c .before .before .before in
-    let a = t .args in
-    let p = t .pre .1 in
-    draft-long (a .n) (a .b) (a .m) (a .log .now) (p .0) (p .1) (p .2 .draft)
 
 mul-at : tie.Need-mul-at
 mul-at c = search needs
@@ -42,86 +25,20 @@ part-apply-record-start c = search needs
 
 part-apply-record-end : tie.Need-part-apply-record-end
 part-apply-record-end c =
-    let t = c .before .before .before .before .before .before in
+    let t = c .before .before .before .before in
     let a = t .args in
     let p = t .pre .1 in
-    omega (arith, draft-long (a .n) (a .b) (a .m) (a .log .now) (p .0) (p .1) (p .2 .draft), p .2 .draft .room, p .2 .place)
+    omega (arith, draft-long (a .n) (a .b) (a .m) (a .log .now) (p .0) (p .1) (p .2 .placed .draft), p .2 .placed .draft .room, p .2 .placed .place)
 
 apply-record-requires : tie.Need-apply-record-requires
 apply-record-requires c κs =
-    let t = c .before .before .before .before .before .before .before in
+    let t = c .before .before .before .before .before in
     let a = t .args in
     let p = t .pre .1 in
-    (t .pre .0, (p .1, record { rest = _; bytes = draft-part (a .n) (a .b) (a .m) (a .log .now) (p .0) (p .1) (p .2 .draft) (a .used) (p .2 .place) }, p .2 .able))
+    (t .pre .0, (p .1, record { rest = _; bytes = draft-part (a .n) (a .b) (a .m) (a .log .now) (p .0) (p .1) (p .2 .placed .draft) (a .used) (p .2 .placed .place) }, p .2 .able))
 
-none-requires : tie.Need-none-requires
-none-requires c κs = search needs
-
-sub-order-of : tie.Need-sub-order-of
-sub-order-of c = search needs
-
-part-order-of-start : tie.Need-part-order-of-start
-part-order-of-start c = search needs
-
-part-order-of-end : tie.Need-part-order-of-end
-part-order-of-end c =
-    let t = c .before .before .before .before .before .before .before .before .before .before .before .before .before in
-    let a = t .args in
-    let p = t .pre .1 in
-    omega (arith, draft-long (a .n) (a .b) (a .m) (a .log .now) (p .0) (p .1) (p .2 .draft), p .2 .draft .room, p .2 .place)
-
-order-of-requires : tie.Need-order-of-requires
-order-of-requires c κs = search needs
-
-add-requires : tie.Need-add-requires
-add-requires c κs = search needs
-
-sub-note-slots : tie.Need-sub-note-slots
-sub-note-slots c = search needs
-
-part-note-slots-start : tie.Need-part-note-slots-start
-part-note-slots-start c = search needs
-
-part-note-slots-end : tie.Need-part-note-slots-end
-part-note-slots-end c =
-    let t = c .before .before .before .before .before .before .before .before .before .before .before .before .before .before .before .before in
-    let a = t .args in
-    let p = t .pre .1 in
-    omega (arith, draft-long (a .n) (a .b) (a .m) (a .log .now) (p .0) (p .1) (p .2 .draft), p .2 .draft .room, p .2 .place)
-
-note-slots-requires : tie.Need-note-slots-requires
-note-slots-requires c κs =
-    let y = c .before .before in
-    let o = y .before in
-    let f = o .before .before .before .before in
-    let t = f .before .before .before .before .before .before .before .before .before .before .before in
-    let a = t .args in
-    let p = t .pre .1 in
-    let d = p .2 .draft in
-    let r = p .1 in
-    let w = o .order-of .ensures .0 r _ (d .sound) (draft-part (a .n) (a .b) (a .m) (a .log .now) (p .0) r d (a .used) (p .2 .place)) in (
-      draft-slotted (a .n) (a .b) (a .m) (a .log .now) (p .0) r d (a .used) (p .2 .place),
-      (omega (arith, head-limits r (d .sound) .1, p .2 .issuer), (_, y .add .ensures (r .operation) [] w (f .none .ensures))),
-    )
-
-open-slot-requires : tie.Need-open-slot-requires
-open-slot-requires c κs =
-    let n = c .before .before .before in
-    let t = n .before .before .before .before .before .before .before .before .before .before .before .before .before .before .before .before .before .before .before in
-    let a = t .args in
-    let p = t .pre .1 in
-    let d = p .2 .draft in
-    (room-kept {j = length (a .log .now)} (search needs) (omega (arith, draft-long (a .n) (a .b) (a .m) (a .log .now) (p .0) (p .1) d, d .room, p .2 .place)), omega (arith, head-limits (p .1) (d .sound) .1, p .2 .issuer))
-
-add-put-four : tie.Need-add-put-four
-add-put-four c = search needs
-
-put-four-requires : tie.Need-put-four-requires
-put-four-requires c κs =
-    let t = c .before .before .before .before .before .before .before .before .before .before .before .before .before .before .before .before .before .before .before .before .before .before .before .before .before .before in
-    let a = t .args in
-    let p = t .pre .1 in
-    room-kept {j = length (a .log .now)} (search needs) (omega (arith, draft-long (a .n) (a .b) (a .m) (a .log .now) (p .0) (p .1) (p .2 .draft)))
+issue-log-requires : tie.Need-issue-log-requires
+issue-log-requires c κs = search needs
 
 same-length : tie.Need-same-length
 same-length c = search needs
@@ -131,31 +48,20 @@ same-length-2 c = search needs
 
 returns : tie.Need-returns
 returns c l r h =
-    let z = c .before .before in
-    let o = z .before .before .before .before in
-    let n = o .before .before .before .before in
-    let y = n .before .before .before in
-    let f = y .before in
-    let e = f .before .before .before .before in
-    let v = e .before .before .before in
-    let q = v .before .before .before .before in
-    let t = q .before .before .before .before in
-    let a = t .args in
-    let d = h .draft in
-    let w = f .order-of .ensures .0 r _ (d .sound) (draft-part (a .n) (a .b) (a .m) (a .log .now) l r d (a .used) (h .place)) in
-    let g = q .next-number .ensures .0 ∙ draft-next (a .n) (a .b) (a .m) (a .log .now) l r d in
+    let g = c .before .before in
+    let v = g .before .before .before .before in
+    let a = v .before .before .before .before .before .before .args in
+    let w = g .issue-log .ensures l r (h .placed) in
     record {
-      gives = g;
-      log = issued-all (a .n) (a .b) (a .m) (a .log .now) l r d (a .used) (a .program) (q .next-number .result) (h .place) (h .issuer) g (n .note-slots .last .0) (o .open-slot .last .0) (z .put-four .last .0)
-          (n .note-slots .ensures .0 _ (y .add .ensures (r .operation) [] w (e .none .ensures))) (o .open-slot .ensures) (z .put-four .ensures .placed);
-      view = v .apply-record .ensures r (record { rest = _; bytes = draft-part (a .n) (a .b) (a .m) (a .log .now) l r d (a .used) (h .place) }) (h .able);
+      gives = w .gives;
+      log = w .log;
+      view = v .apply-record .ensures r (record { rest = _; bytes = draft-part (a .n) (a .b) (a .m) (a .log .now) l r (h .placed .draft) (a .used) (h .placed .place) }) (h .able);
     }
 
 pub issue-spec : {M : Type 1} → statement M
 issue-spec =
     tie.close
     (tie.spec
-    next-number-requires
     mul-at
     add-at
     add-start
@@ -164,19 +70,7 @@ issue-spec =
     part-apply-record-start
     part-apply-record-end
     apply-record-requires
-    none-requires
-    sub-order-of
-    part-order-of-start
-    part-order-of-end
-    order-of-requires
-    add-requires
-    sub-note-slots
-    part-note-slots-start
-    part-note-slots-end
-    note-slots-requires
-    open-slot-requires
-    add-put-four
-    put-four-requires
+    issue-log-requires
     same-length
     same-length-2
     returns)

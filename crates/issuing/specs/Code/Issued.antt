@@ -15,6 +15,11 @@ use Rattle.log.specs.Change.{note, issue}
 use Rattle.log.specs.Code.Slots.{usedIn}
 use Rattle.issuing.specs.Code.Draft.{Draft}
 
+-- a record that a log can keep: it is valid, and fits
+pub record Kept (n b : ℕ) (r : Record) : Type 0 where
+  pub sound : valid r ≡ true
+  pub fit : fits n b r ≡ true
+
 -- the record of an operation that may be issued: it is valid, fits, and applies to the view
 pub record Issuable (n b : ℕ) (v : Volume) (r : Record) : Type 0 where
   pub sound : valid r ≡ true
@@ -34,14 +39,23 @@ Room m s = (usedIn m s < m) × (readLog m s .next < 4294967295)
 abbrev pub issuedLog : Record → Log → Log
 issuedLog r l = issue (r .program) (r .operation) (note (r .program) (operands (r .operation)) l)
 
--- a record stands in the first free slot, and may be issued
-pub record Ready (n b m used p : ℕ) (s : List ℕ) (v : Volume) (l : Log) (r : Record) : Type 0 where
+-- a record stands in the first free slot
+pub record Placed (n b m used p : ℕ) (s : List ℕ) (l : Log) (r : Record) : Type 0 where
   pub draft : Draft n b m s l r
   pub place : used ≡ length (l .slots)
   pub issuer : r .program ≡ p
+
+-- and its operation may be issued
+pub record Ready (n b m used p : ℕ) (s : List ℕ) (v : Volume) (l : Log) (r : Record) : Type 0 where
+  pub placed : Placed n b m used p s l r
   pub able : Issuable n b v r
 
--- the sequence number, the log and the view afterwards
+-- the sequence number and the log afterwards, in which the operation waits
+pub record Waits (m number : ℕ) (log′ : List ℕ) (l : Log) (r : Record) : Type 0 where
+  pub gives : number ≡ l .next
+  pub log : log′ ≡ encodeLog m (issuedLog r l)
+
+-- the same, and the view afterwards
 pub record Issued (n b m : ℕ) (number : ℕ) (log′ view′ : List ℕ) (v : Volume) (l : Log) (r : Record) : Type 0 where
   pub gives : number ≡ l .next
   pub log : log′ ≡ encodeLog m (issuedLog r l)

@@ -52,7 +52,7 @@ write-entry-requires c κs =
     let a = t .args in
     let k = u .used .ensures .1 (a .n) (a .b) (t .pre .0) in
     let is = ap (λ (j : ℕ). entryRecord (a .kind) j (a .program) (a .object) (a .parent) (a .name .now)) (f .next-number .ensures .0) in
-    (t .pre .1 .1 .1 .0, record-room (a .n) (a .b) (a .m) (a .log .now) (t .pre .0) (t .pre .1 .1 .0) (readVolume (a .n) (a .b) (a .view .now)) (u .used .result) k (entryRecord (a .kind) (f .next-number .result) (a .program) (a .object) (a .parent) (a .name .now)) (ap valid is ∙ t .pre .1 .1 .1 .1 .sound))
+    (t .pre .1 .1 .1 .0, record-room (a .n) (a .b) (a .m) (a .log .now) (t .pre .0) (t .pre .1 .1 .0) (u .used .result) k (entryRecord (a .kind) (f .next-number .result) (a .program) (a .object) (a .parent) (a .name .now)) (ap valid is ∙ t .pre .1 .1 .1 .1 .sound))
 
 issue-requires : tie.Need-issue-requires
 unfolding entryRecord
@@ -64,7 +64,7 @@ issue-requires c κs =
     let a = t .args in
     let k = u .used .ensures .1 (a .n) (a .b) (t .pre .0) in
     let is = ap (λ (j : ℕ). entryRecord (a .kind) j (a .program) (a .object) (a .parent) (a .name .now)) (f .next-number .ensures .0) in
-    (t .pre .1 .0, (readLog (a .m) (a .log .now), entryRecord (a .kind) (readLog (a .m) (a .log .now) .next) (a .program) (a .object) (a .parent) (a .name .now), ready (a .n) (a .b) (a .m) (a .log .now) (t .pre .0) (t .pre .1 .1 .0) (readVolume (a .n) (a .b) (a .view .now)) (u .used .result) k (a .program) (entryRecord (a .kind) (f .next-number .result) (a .program) (a .object) (a .parent) (a .name .now)) (entryRecord (a .kind) (readLog (a .m) (a .log .now) .next) (a .program) (a .object) (a .parent) (a .name .now)) is (t .pre .1 .1 .1 .1) refl refl (w .write-entry .last .0) (w .write-entry .result) (w .write-entry .ensures)))
+    (t .pre .1 .0, (readLog (a .m) (a .log .now), entryRecord (a .kind) (readLog (a .m) (a .log .now) .next) (a .program) (a .object) (a .parent) (a .name .now), ready (a .n) (a .b) (a .m) (a .log .now) (t .pre .0) (t .pre .1 .1 .0) (u .used .result) k (readVolume (a .n) (a .b) (a .view .now)) (a .program) (entryRecord (a .kind) (f .next-number .result) (a .program) (a .object) (a .parent) (a .name .now)) (entryRecord (a .kind) (readLog (a .m) (a .log .now) .next) (a .program) (a .object) (a .parent) (a .name .now)) is (t .pre .1 .1 .1 .1) refl refl (w .write-entry .last .0) (w .write-entry .result) (w .write-entry .ensures)))
 
 same-length : tie.Need-same-length
 same-length c = search needs
@@ -83,7 +83,7 @@ returns c =
     let a = t .args in
     let k = u .used .ensures .1 (a .n) (a .b) (t .pre .0) in
     let is = ap (λ (j : ℕ). entryRecord (a .kind) j (a .program) (a .object) (a .parent) (a .name .now)) (f .next-number .ensures .0) in
-    e .issue .ensures (readLog (a .m) (a .log .now)) (entryRecord (a .kind) (readLog (a .m) (a .log .now) .next) (a .program) (a .object) (a .parent) (a .name .now)) (ready (a .n) (a .b) (a .m) (a .log .now) (t .pre .0) (t .pre .1 .1 .0) (readVolume (a .n) (a .b) (a .view .now)) (u .used .result) k (a .program) (entryRecord (a .kind) (f .next-number .result) (a .program) (a .object) (a .parent) (a .name .now)) (entryRecord (a .kind) (readLog (a .m) (a .log .now) .next) (a .program) (a .object) (a .parent) (a .name .now)) is (t .pre .1 .1 .1 .1) refl refl (w .write-entry .last .0) (w .write-entry .result) (w .write-entry .ensures))
+    e .issue .ensures (readLog (a .m) (a .log .now)) (entryRecord (a .kind) (readLog (a .m) (a .log .now) .next) (a .program) (a .object) (a .parent) (a .name .now)) (ready (a .n) (a .b) (a .m) (a .log .now) (t .pre .0) (t .pre .1 .1 .0) (u .used .result) k (readVolume (a .n) (a .b) (a .view .now)) (a .program) (entryRecord (a .kind) (f .next-number .result) (a .program) (a .object) (a .parent) (a .name .now)) (entryRecord (a .kind) (readLog (a .m) (a .log .now) .next) (a .program) (a .object) (a .parent) (a .name .now)) is (t .pre .1 .1 .1 .1) refl refl (w .write-entry .last .0) (w .write-entry .result) (w .write-entry .ensures))
 
 pub issue-entry-spec : {M : Type 1} → statement M
 issue-entry-spec =

@@ -3,10 +3,9 @@ use native.Mathlib.Omega.{arith}
 use Prim.Native.Nat.{ℕ}
 use mathlib.Core.Path.{refl, ap, _∙_}
 use Rattle.records.specs.Fields.{valid}
-use Rattle.search.specs.Stored.{readVolume}
 use Rattle.log.specs.Stored.{readLog}
 use Rattle.writer.specs.Code.Writer.{forderRecord}
-use Rattle.issuing.specs.DraftLaws.{record-room, ready}
+use Rattle.issuing.specs.DraftLaws.{record-room, placed}
 use borrow.Author.Needs.{needs}
 use Rattle.issuing.proofs.shapes.issue_forder.Statement.{statement}
 use Rattle.issuing.proofs.shapes.issue_forder.Tie as tie
@@ -39,51 +38,48 @@ part-write-forder-end : tie.Need-part-write-forder-end
 part-write-forder-end c =
     let f = c in
     let u = f .before .before in
-    let t = u .before .before .before .before .before in
+    let t = u .before .before .before .before in
     let a = t .args in
     let k = u .used .ensures .1 (a .n) (a .b) (t .pre .0) in
-    omega (arith, k, t .pre .0 .whole, t .pre .1 .1 .0 .0)
+    omega (arith, k, t .pre .0 .whole, t .pre .1 .0 .0)
 
 write-forder-requires : tie.Need-write-forder-requires
 write-forder-requires c κs =
     let f = c .before in
     let u = f .before .before in
-    let t = u .before .before .before .before .before in
+    let t = u .before .before .before .before in
     let a = t .args in
     let k = u .used .ensures .1 (a .n) (a .b) (t .pre .0) in
     let is = ap (λ (j : ℕ). forderRecord j (a .program) (a .list .now)) (f .next-number .ensures .0) in
-    (t .pre .1 .1 .1 .0, record-room (a .n) (a .b) (a .m) (a .log .now) (t .pre .0) (t .pre .1 .1 .0) (readVolume (a .n) (a .b) (a .view .now)) (u .used .result) k (forderRecord (f .next-number .result) (a .program) (a .list .now)) (ap valid is ∙ t .pre .1 .1 .1 .1 .sound))
+    (t .pre .1 .1 .0, record-room (a .n) (a .b) (a .m) (a .log .now) (t .pre .0) (t .pre .1 .0) (u .used .result) k (forderRecord (f .next-number .result) (a .program) (a .list .now)) (ap valid is ∙ t .pre .1 .1 .1 .sound))
 
-issue-requires : tie.Need-issue-requires
+issue-log-requires : tie.Need-issue-log-requires
 unfolding forderRecord
-issue-requires c κs =
-    let w = c .before .before .before .before in
+issue-log-requires c κs =
+    let w = c .before .before .before in
     let f = w .before .before in
     let u = f .before .before in
-    let t = u .before .before .before .before .before in
+    let t = u .before .before .before .before in
     let a = t .args in
     let k = u .used .ensures .1 (a .n) (a .b) (t .pre .0) in
     let is = ap (λ (j : ℕ). forderRecord j (a .program) (a .list .now)) (f .next-number .ensures .0) in
-    (t .pre .1 .0, (readLog (a .m) (a .log .now), forderRecord (readLog (a .m) (a .log .now) .next) (a .program) (a .list .now), ready (a .n) (a .b) (a .m) (a .log .now) (t .pre .0) (t .pre .1 .1 .0) (readVolume (a .n) (a .b) (a .view .now)) (u .used .result) k (a .program) (forderRecord (f .next-number .result) (a .program) (a .list .now)) (forderRecord (readLog (a .m) (a .log .now) .next) (a .program) (a .list .now)) is (t .pre .1 .1 .1 .1) refl refl (w .write-forder .last .0) (w .write-forder .result) (w .write-forder .ensures)))
+    (readLog (a .m) (a .log .now), (forderRecord (readLog (a .m) (a .log .now) .next) (a .program) (a .list .now)), placed (a .n) (a .b) (a .m) (a .log .now) (t .pre .0) (t .pre .1 .0) (u .used .result) k (a .program) (forderRecord (f .next-number .result) (a .program) (a .list .now)) (forderRecord (readLog (a .m) (a .log .now) .next) (a .program) (a .list .now)) is (t .pre .1 .1 .1) refl refl (w .write-forder .last .0) (w .write-forder .result) (w .write-forder .ensures))
 
 same-length : tie.Need-same-length
 same-length c = search needs
 
-same-length-2 : tie.Need-same-length-2
-same-length-2 c = search needs
-
 returns : tie.Need-returns
 unfolding forderRecord
 returns c =
-    let e = c .before .before .before .before in
-    let w = e .before .before .before .before .before in
+    let e = c .before .before in
+    let w = e .before .before .before .before in
     let f = w .before .before in
     let u = f .before .before in
-    let t = u .before .before .before .before .before in
+    let t = u .before .before .before .before in
     let a = t .args in
     let k = u .used .ensures .1 (a .n) (a .b) (t .pre .0) in
     let is = ap (λ (j : ℕ). forderRecord j (a .program) (a .list .now)) (f .next-number .ensures .0) in
-    e .issue .ensures (readLog (a .m) (a .log .now)) (forderRecord (readLog (a .m) (a .log .now) .next) (a .program) (a .list .now)) (ready (a .n) (a .b) (a .m) (a .log .now) (t .pre .0) (t .pre .1 .1 .0) (readVolume (a .n) (a .b) (a .view .now)) (u .used .result) k (a .program) (forderRecord (f .next-number .result) (a .program) (a .list .now)) (forderRecord (readLog (a .m) (a .log .now) .next) (a .program) (a .list .now)) is (t .pre .1 .1 .1 .1) refl refl (w .write-forder .last .0) (w .write-forder .result) (w .write-forder .ensures))
+    e .issue-log .ensures (readLog (a .m) (a .log .now)) (forderRecord (readLog (a .m) (a .log .now) .next) (a .program) (a .list .now)) (placed (a .n) (a .b) (a .m) (a .log .now) (t .pre .0) (t .pre .1 .0) (u .used .result) k (a .program) (forderRecord (f .next-number .result) (a .program) (a .list .now)) (forderRecord (readLog (a .m) (a .log .now) .next) (a .program) (a .list .now)) is (t .pre .1 .1 .1) refl refl (w .write-forder .last .0) (w .write-forder .result) (w .write-forder .ensures))
 
 pub issue-forder-spec : {M : Type 1} → statement M
 issue-forder-spec =
@@ -99,7 +95,6 @@ issue-forder-spec =
     part-write-forder-start
     part-write-forder-end
     write-forder-requires
-    issue-requires
+    issue-log-requires
     same-length
-    same-length-2
     returns)

@@ -52,7 +52,7 @@ write-length-requires c κs =
     let a = t .args in
     let k = u .used .ensures .1 (a .n) (a .b) (t .pre .0) in
     let is = ap (λ (j : ℕ). lengthRecord j (a .program) (a .object) (a .length)) (f .next-number .ensures .0) in
-    record-room (a .n) (a .b) (a .m) (a .log .now) (t .pre .0) (t .pre .1 .1 .0) (readVolume (a .n) (a .b) (a .view .now)) (u .used .result) k (lengthRecord (f .next-number .result) (a .program) (a .object) (a .length)) (ap valid is ∙ t .pre .1 .1 .1 .sound)
+    record-room (a .n) (a .b) (a .m) (a .log .now) (t .pre .0) (t .pre .1 .1 .0) (u .used .result) k (lengthRecord (f .next-number .result) (a .program) (a .object) (a .length)) (ap valid is ∙ t .pre .1 .1 .1 .sound)
 
 issue-requires : tie.Need-issue-requires
 unfolding lengthRecord
@@ -64,7 +64,7 @@ issue-requires c κs =
     let a = t .args in
     let k = u .used .ensures .1 (a .n) (a .b) (t .pre .0) in
     let is = ap (λ (j : ℕ). lengthRecord j (a .program) (a .object) (a .length)) (f .next-number .ensures .0) in
-    (t .pre .1 .0, (readLog (a .m) (a .log .now), lengthRecord (readLog (a .m) (a .log .now) .next) (a .program) (a .object) (a .length), ready (a .n) (a .b) (a .m) (a .log .now) (t .pre .0) (t .pre .1 .1 .0) (readVolume (a .n) (a .b) (a .view .now)) (u .used .result) k (a .program) (lengthRecord (f .next-number .result) (a .program) (a .object) (a .length)) (lengthRecord (readLog (a .m) (a .log .now) .next) (a .program) (a .object) (a .length)) is (t .pre .1 .1 .1) refl refl (w .write-length .last .0) (w .write-length .result) (w .write-length .ensures)))
+    (t .pre .1 .0, (readLog (a .m) (a .log .now), lengthRecord (readLog (a .m) (a .log .now) .next) (a .program) (a .object) (a .length), ready (a .n) (a .b) (a .m) (a .log .now) (t .pre .0) (t .pre .1 .1 .0) (u .used .result) k (readVolume (a .n) (a .b) (a .view .now)) (a .program) (lengthRecord (f .next-number .result) (a .program) (a .object) (a .length)) (lengthRecord (readLog (a .m) (a .log .now) .next) (a .program) (a .object) (a .length)) is (t .pre .1 .1 .1) refl refl (w .write-length .last .0) (w .write-length .result) (w .write-length .ensures)))
 
 same-length : tie.Need-same-length
 same-length c = search needs
@@ -83,7 +83,7 @@ returns c =
     let a = t .args in
     let k = u .used .ensures .1 (a .n) (a .b) (t .pre .0) in
     let is = ap (λ (j : ℕ). lengthRecord j (a .program) (a .object) (a .length)) (f .next-number .ensures .0) in
-    e .issue .ensures (readLog (a .m) (a .log .now)) (lengthRecord (readLog (a .m) (a .log .now) .next) (a .program) (a .object) (a .length)) (ready (a .n) (a .b) (a .m) (a .log .now) (t .pre .0) (t .pre .1 .1 .0) (readVolume (a .n) (a .b) (a .view .now)) (u .used .result) k (a .program) (lengthRecord (f .next-number .result) (a .program) (a .object) (a .length)) (lengthRecord (readLog (a .m) (a .log .now) .next) (a .program) (a .object) (a .length)) is (t .pre .1 .1 .1) refl refl (w .write-length .last .0) (w .write-length .result) (w .write-length .ensures))
+    e .issue .ensures (readLog (a .m) (a .log .now)) (lengthRecord (readLog (a .m) (a .log .now) .next) (a .program) (a .object) (a .length)) (ready (a .n) (a .b) (a .m) (a .log .now) (t .pre .0) (t .pre .1 .1 .0) (u .used .result) k (readVolume (a .n) (a .b) (a .view .now)) (a .program) (lengthRecord (f .next-number .result) (a .program) (a .object) (a .length)) (lengthRecord (readLog (a .m) (a .log .now) .next) (a .program) (a .object) (a .length)) is (t .pre .1 .1 .1) refl refl (w .write-length .last .0) (w .write-length .result) (w .write-length .ensures))
 
 pub issue-length-spec : {M : Type 1} → statement M
 issue-length-spec =

@@ -52,7 +52,7 @@ write-range-requires c κs =
     let a = t .args in
     let k = u .used .ensures .1 (a .n) (a .b) (t .pre .0) in
     let is = ap (λ (j : ℕ). rangeRecord (a .kind) j (a .program) (a .object) (a .offset) (a .content .now)) (f .next-number .ensures .0) in
-    (t .pre .1 .1 .1 .0, record-room (a .n) (a .b) (a .m) (a .log .now) (t .pre .0) (t .pre .1 .1 .0) (readVolume (a .n) (a .b) (a .view .now)) (u .used .result) k (rangeRecord (a .kind) (f .next-number .result) (a .program) (a .object) (a .offset) (a .content .now)) (ap valid is ∙ t .pre .1 .1 .1 .1 .sound))
+    (t .pre .1 .1 .1 .0, record-room (a .n) (a .b) (a .m) (a .log .now) (t .pre .0) (t .pre .1 .1 .0) (u .used .result) k (rangeRecord (a .kind) (f .next-number .result) (a .program) (a .object) (a .offset) (a .content .now)) (ap valid is ∙ t .pre .1 .1 .1 .1 .sound))
 
 issue-requires : tie.Need-issue-requires
 unfolding rangeRecord
@@ -64,7 +64,7 @@ issue-requires c κs =
     let a = t .args in
     let k = u .used .ensures .1 (a .n) (a .b) (t .pre .0) in
     let is = ap (λ (j : ℕ). rangeRecord (a .kind) j (a .program) (a .object) (a .offset) (a .content .now)) (f .next-number .ensures .0) in
-    (t .pre .1 .0, (readLog (a .m) (a .log .now), rangeRecord (a .kind) (readLog (a .m) (a .log .now) .next) (a .program) (a .object) (a .offset) (a .content .now), ready (a .n) (a .b) (a .m) (a .log .now) (t .pre .0) (t .pre .1 .1 .0) (readVolume (a .n) (a .b) (a .view .now)) (u .used .result) k (a .program) (rangeRecord (a .kind) (f .next-number .result) (a .program) (a .object) (a .offset) (a .content .now)) (rangeRecord (a .kind) (readLog (a .m) (a .log .now) .next) (a .program) (a .object) (a .offset) (a .content .now)) is (t .pre .1 .1 .1 .1) refl refl (w .write-range .last .0) (w .write-range .result) (w .write-range .ensures)))
+    (t .pre .1 .0, (readLog (a .m) (a .log .now), rangeRecord (a .kind) (readLog (a .m) (a .log .now) .next) (a .program) (a .object) (a .offset) (a .content .now), ready (a .n) (a .b) (a .m) (a .log .now) (t .pre .0) (t .pre .1 .1 .0) (u .used .result) k (readVolume (a .n) (a .b) (a .view .now)) (a .program) (rangeRecord (a .kind) (f .next-number .result) (a .program) (a .object) (a .offset) (a .content .now)) (rangeRecord (a .kind) (readLog (a .m) (a .log .now) .next) (a .program) (a .object) (a .offset) (a .content .now)) is (t .pre .1 .1 .1 .1) refl refl (w .write-range .last .0) (w .write-range .result) (w .write-range .ensures)))
 
 same-length : tie.Need-same-length
 same-length c = search needs
@@ -83,7 +83,7 @@ returns c =
     let a = t .args in
     let k = u .used .ensures .1 (a .n) (a .b) (t .pre .0) in
     let is = ap (λ (j : ℕ). rangeRecord (a .kind) j (a .program) (a .object) (a .offset) (a .content .now)) (f .next-number .ensures .0) in
-    e .issue .ensures (readLog (a .m) (a .log .now)) (rangeRecord (a .kind) (readLog (a .m) (a .log .now) .next) (a .program) (a .object) (a .offset) (a .content .now)) (ready (a .n) (a .b) (a .m) (a .log .now) (t .pre .0) (t .pre .1 .1 .0) (readVolume (a .n) (a .b) (a .view .now)) (u .used .result) k (a .program) (rangeRecord (a .kind) (f .next-number .result) (a .program) (a .object) (a .offset) (a .content .now)) (rangeRecord (a .kind) (readLog (a .m) (a .log .now) .next) (a .program) (a .object) (a .offset) (a .content .now)) is (t .pre .1 .1 .1 .1) refl refl (w .write-range .last .0) (w .write-range .result) (w .write-range .ensures))
+    e .issue .ensures (readLog (a .m) (a .log .now)) (rangeRecord (a .kind) (readLog (a .m) (a .log .now) .next) (a .program) (a .object) (a .offset) (a .content .now)) (ready (a .n) (a .b) (a .m) (a .log .now) (t .pre .0) (t .pre .1 .1 .0) (u .used .result) k (readVolume (a .n) (a .b) (a .view .now)) (a .program) (rangeRecord (a .kind) (f .next-number .result) (a .program) (a .object) (a .offset) (a .content .now)) (rangeRecord (a .kind) (readLog (a .m) (a .log .now) .next) (a .program) (a .object) (a .offset) (a .content .now)) is (t .pre .1 .1 .1 .1) refl refl (w .write-range .last .0) (w .write-range .result) (w .write-range .ensures))
 
 pub issue-range-spec : {M : Type 1} → statement M
 issue-range-spec =

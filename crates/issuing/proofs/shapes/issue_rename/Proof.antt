@@ -52,7 +52,7 @@ write-rename-requires c κs =
     let a = t .args in
     let k = u .used .ensures .1 (a .n) (a .b) (t .pre .0) in
     let is = ap (λ (j : ℕ). renameRecord j (a .program) (a .object) (a .parent) (a .second) (a .displaced) (a .name .now) (a .second-name .now)) (f .next-number .ensures .0) in
-    record-room (a .n) (a .b) (a .m) (a .log .now) (t .pre .0) (t .pre .1 .1 .0) (readVolume (a .n) (a .b) (a .view .now)) (u .used .result) k (renameRecord (f .next-number .result) (a .program) (a .object) (a .parent) (a .second) (a .displaced) (a .name .now) (a .second-name .now)) (ap valid is ∙ t .pre .1 .1 .1 .sound)
+    record-room (a .n) (a .b) (a .m) (a .log .now) (t .pre .0) (t .pre .1 .1 .0) (u .used .result) k (renameRecord (f .next-number .result) (a .program) (a .object) (a .parent) (a .second) (a .displaced) (a .name .now) (a .second-name .now)) (ap valid is ∙ t .pre .1 .1 .1 .sound)
 
 issue-requires : tie.Need-issue-requires
 unfolding renameRecord
@@ -64,7 +64,7 @@ issue-requires c κs =
     let a = t .args in
     let k = u .used .ensures .1 (a .n) (a .b) (t .pre .0) in
     let is = ap (λ (j : ℕ). renameRecord j (a .program) (a .object) (a .parent) (a .second) (a .displaced) (a .name .now) (a .second-name .now)) (f .next-number .ensures .0) in
-    (t .pre .1 .0, (readLog (a .m) (a .log .now), renameRecord (readLog (a .m) (a .log .now) .next) (a .program) (a .object) (a .parent) (a .second) (a .displaced) (a .name .now) (a .second-name .now), ready (a .n) (a .b) (a .m) (a .log .now) (t .pre .0) (t .pre .1 .1 .0) (readVolume (a .n) (a .b) (a .view .now)) (u .used .result) k (a .program) (renameRecord (f .next-number .result) (a .program) (a .object) (a .parent) (a .second) (a .displaced) (a .name .now) (a .second-name .now)) (renameRecord (readLog (a .m) (a .log .now) .next) (a .program) (a .object) (a .parent) (a .second) (a .displaced) (a .name .now) (a .second-name .now)) is (t .pre .1 .1 .1) refl refl (w .write-rename .last .0) (w .write-rename .result) (w .write-rename .ensures)))
+    (t .pre .1 .0, (readLog (a .m) (a .log .now), renameRecord (readLog (a .m) (a .log .now) .next) (a .program) (a .object) (a .parent) (a .second) (a .displaced) (a .name .now) (a .second-name .now), ready (a .n) (a .b) (a .m) (a .log .now) (t .pre .0) (t .pre .1 .1 .0) (u .used .result) k (readVolume (a .n) (a .b) (a .view .now)) (a .program) (renameRecord (f .next-number .result) (a .program) (a .object) (a .parent) (a .second) (a .displaced) (a .name .now) (a .second-name .now)) (renameRecord (readLog (a .m) (a .log .now) .next) (a .program) (a .object) (a .parent) (a .second) (a .displaced) (a .name .now) (a .second-name .now)) is (t .pre .1 .1 .1) refl refl (w .write-rename .last .0) (w .write-rename .result) (w .write-rename .ensures)))
 
 same-length : tie.Need-same-length
 same-length c = search needs
@@ -83,7 +83,7 @@ returns c =
     let a = t .args in
     let k = u .used .ensures .1 (a .n) (a .b) (t .pre .0) in
     let is = ap (λ (j : ℕ). renameRecord j (a .program) (a .object) (a .parent) (a .second) (a .displaced) (a .name .now) (a .second-name .now)) (f .next-number .ensures .0) in
-    e .issue .ensures (readLog (a .m) (a .log .now)) (renameRecord (readLog (a .m) (a .log .now) .next) (a .program) (a .object) (a .parent) (a .second) (a .displaced) (a .name .now) (a .second-name .now)) (ready (a .n) (a .b) (a .m) (a .log .now) (t .pre .0) (t .pre .1 .1 .0) (readVolume (a .n) (a .b) (a .view .now)) (u .used .result) k (a .program) (renameRecord (f .next-number .result) (a .program) (a .object) (a .parent) (a .second) (a .displaced) (a .name .now) (a .second-name .now)) (renameRecord (readLog (a .m) (a .log .now) .next) (a .program) (a .object) (a .parent) (a .second) (a .displaced) (a .name .now) (a .second-name .now)) is (t .pre .1 .1 .1) refl refl (w .write-rename .last .0) (w .write-rename .result) (w .write-rename .ensures))
+    e .issue .ensures (readLog (a .m) (a .log .now)) (renameRecord (readLog (a .m) (a .log .now) .next) (a .program) (a .object) (a .parent) (a .second) (a .displaced) (a .name .now) (a .second-name .now)) (ready (a .n) (a .b) (a .m) (a .log .now) (t .pre .0) (t .pre .1 .1 .0) (u .used .result) k (readVolume (a .n) (a .b) (a .view .now)) (a .program) (renameRecord (f .next-number .result) (a .program) (a .object) (a .parent) (a .second) (a .displaced) (a .name .now) (a .second-name .now)) (renameRecord (readLog (a .m) (a .log .now) .next) (a .program) (a .object) (a .parent) (a .second) (a .displaced) (a .name .now) (a .second-name .now)) is (t .pre .1 .1 .1) refl refl (w .write-rename .last .0) (w .write-rename .result) (w .write-rename .ensures))
 
 pub issue-rename-spec : {M : Type 1} → statement M
 issue-rename-spec =

@@ -1,0 +1,5 @@
+// What most calls ask first and last (document 01, "Returned numbers"): lengths and form of what is lent (1 and 2), the program (3
+// and 4), and room in the log (13 and 14).
+pub mod lent;
+pub mod program;
+pub mod room;

@@ -1,0 +1,157 @@
+-- The four questions: each asks of the view, and the objects that an answer speaks of are the volume's. Assumes nothing.
+use Prim.Native.Nat.{ℕ, _≤_, _<_}
+use native.Mathlib.Omega.{arith}
+use mathlib.Core.Path.{_≡_, refl, sym, ap, _∙_}
+use mathlib.Core.List.{List, [], _∷_}
+use mathlib.Core.Bool.{Bool, true, false, _||_, cond, and-eq-true-iff}
+use lib.ListN.{length, set, replicate, length-set}
+use lib.Seq.{getD-set-same, getD-set-other}
+use lib.Dec.{eqb, ltb}
+use borrow.Author.Tests.{eqb-true, eqb-false, ltb-true, lt-ltb}
+use Rattle.buffer.specs.ZeroLaws.{zeros-at}
+use Rattle.names.specs.declared.PathText.{PathText}
+use Rattle.names.specs.declared.PathText.the-variants.{Bad, Root, Components}
+use Rattle.names.specs.Path.{pathTextOf, components}
+use Rattle.records.specs.Fields.{member, allBelow}
+use Rattle.entry.specs.Entry.{contentsOf}
+use Rattle.search.specs.Volume.{Volume, entryAt}
+use Rattle.search.specs.Stored.{readVolume}
+use Rattle.search.specs.LentLaws.{length-read}
+use Rattle.log.specs.Code.Flags.{stands, Holds}
+use Rattle.lookup.specs.declared.lookup.Reached.{Reached}
+use Rattle.lookup.specs.declared.lookup.Reached.the-variants.{Found, BadName, LongName, NoObject, WrongKind}
+use Rattle.lookup.specs.Lookup.{componentAnswer, nextObjects, componentsObjects, pathObjects, lookupAnswer, lookupOperands, reachedNumber, reachedResults}
+use Rattle.lookup.specs.LookupLaws.{found-below}
+use Rattle.lookup.specs.Code.Marks.{objectsMarked}
+use Rattle.questions.specs.declared.object.Object.{Object}
+use Rattle.questions.specs.declared.object.Object.the-variants.{BadNumber}
+use Rattle.questions.specs.Answer.{objectOf, objectAnswer, statOf, statAnswer, statNumber, statResults, readOf, readAnswer, readLeaves, readNumber, readResults, listOf, listAnswer, listLeaves, listNumber, listResults}
+use Rattle.questions.specs.Listing.{listing}
+use Rattle.session.specs.Call.{Call, Answer, answer}
+use Rattle.session.specs.Call
+use Rattle.session.specs.Question as Question
+use Rattle.session.specs.Step.{answerOf}
+use Rattle.asking.specs.NotedLaws.{Asks}
+
+-- what each question answers
+abbrev pub lookupGives : Volume → List ℕ → Answer
+lookupGives v path = answer (reachedNumber (lookupAnswer v path)) (reachedResults (lookupAnswer v path)) []
+
+abbrev pub listGives : Volume → ℕ → List ℕ → Answer
+listGives v o own = answer (listNumber (listAnswer v o own)) (listResults (listAnswer v o own)) (listLeaves v o own)
+
+abbrev pub statGives : Volume → ℕ → Answer
+statGives v o = answer (statNumber (statAnswer v o)) (statResults (statAnswer v o)) []
+
+abbrev pub readGives : Volume → ℕ → ℕ → List ℕ → Answer
+readGives v o f own = answer (readNumber (readAnswer v o f own)) (readResults (readAnswer v o f own)) (readLeaves v o f own)
+
+-- Each is refused for its program, or answers of the view.
+module _ (n b m p : ℕ) (s v l : List ℕ) where
+  pub lookup-asks : (path : List ℕ) → Asks n b m p s v l (Call.lookup p path) (lookupGives (readVolume n b v) path)
+  unfolding answerOf Question.lookupOf
+  lookup-asks path = record { is = refl; quiet = λ x. refl }
+
+  pub list-asks : (o : ℕ) (own : List ℕ) → Asks n b m p s v l (Call.list p o own) (listGives (readVolume n b v) o own)
+  unfolding answerOf Question.listOf
+  list-asks o own = record { is = refl; quiet = λ x. refl }
+
+  pub stat-asks : (o : ℕ) → Asks n b m p s v l (Call.stat p o) (statGives (readVolume n b v) o)
+  unfolding answerOf Question.statOf
+  stat-asks o = record { is = refl; quiet = λ x. refl }
+
+  pub read-asks : (o f : ℕ) (own : List ℕ) → Asks n b m p s v l (Call.read p o f own) (readGives (readVolume n b v) o f own)
+  unfolding answerOf Question.readOf
+  read-asks o f own = record { is = refl; quiet = λ x. refl }
+
+-- ---- the object of an accepted question
+
+-- a number that names a file or a directory is below the volume's length
+named-below : (v : Volume) (o : ℕ) → (objectAnswer v o ≡ BadNumber → ⊥) → o < length v
+unfolding objectAnswer
+named-below v o = go (ltb o (length v)) refl
+  where
+    go : (t : Bool) → ltb o (length v) ≡ t → (cond t (objectOf (entryAt v o)) BadNumber ≡ BadNumber → ⊥) → o < length v
+    go true e h = ltb-true o (length v) e
+    go false e h = absurd (h refl)
+
+-- so the object of a question that is accepted is below 256
+module _ (n b : ℕ) (s : List ℕ) (most : n ≤ 256) (o : ℕ) where
+  named-few : (objectAnswer (readVolume n b s) o ≡ BadNumber → ⊥) → o < 256
+  named-few h = let z = named-below (readVolume n b s) o h in let e = length-read n b s in omega arith
+
+  pub stat-few : statNumber (statAnswer (readVolume n b s) o) ≡ 0 → o < 256
+  unfolding statAnswer
+  stat-few e = named-few (λ f. let z : _≡_ {A = ℕ} 7 0 = sym (ap (λ (x : Object). statNumber (statOf x (entryAt (readVolume n b s) o))) f) ∙ e in omega arith)
+
+  pub list-few : (own : List ℕ) → listNumber (listAnswer (readVolume n b s) o own) ≡ 0 → o < 256
+  unfolding listAnswer
+  list-few own e =
+      let v = readVolume n b s in
+      named-few (λ f. let z : _≡_ {A = ℕ} 7 0 = sym (ap (λ (x : Object). listNumber (listOf x (listing v o (length v)) own)) f) ∙ e in omega arith)
+
+  pub read-few : (f : ℕ) (own : List ℕ) → readNumber (readAnswer (readVolume n b s) o f own) ≡ 0 → o < 256
+  unfolding readAnswer
+  read-few f own e =
+      let v = readVolume n b s in
+      named-few (λ g. let z : _≡_ {A = ℕ} 7 0 = sym (ap (λ (x : Object). readNumber (readOf x (contentsOf (entryAt v o)) f own)) g) ∙ e in omega arith)
+
+-- ---- the objects that a lookup meets
+
+-- the marks with some objects added have these and what they had
+marked-stands : (l m : List ℕ) → allBelow (length m) l ≡ true → (x : ℕ) → stands (objectsMarked l m) x ≡ (member x l || stands m x)
+unfolding objectsMarked member allBelow
+marked-stands [] m h x = refl
+marked-stands (o ∷ l) m h x =
+    let g = and-eq-true-iff (ltb o (length m)) (allBelow (length m) l) .0 h in
+    let below = ltb-true o (length m) (g .0) in
+    marked-stands l (set m o 1) (ap (λ (k : ℕ). allBelow k l) (length-set m o 1) ∙ g .1) x ∙ at (eqb x o) refl below
+  where
+    or-true : (t : Bool) → (t || true) ≡ true
+    or-true true = refl
+    or-true false = refl
+
+    at : (t : Bool) → eqb x o ≡ t → o < length m → (member x l || stands (set m o 1) x) ≡ ((eqb x o || member x l) || stands m x)
+    at true e below = let z = eqb-true x o e in rw (e, z, getD-set-same m o 1 0 below) (or-true (member o l))
+    at false e below = rw (e, getD-set-other m o x 1 0 (eqb-false x o e))
+
+-- the objects that components lead to are the volume's
+objects-below : (v : Volume) (k : ℕ) → length v ≤ k → (o : ℕ) (cs : List (List ℕ)) → allBelow k (componentsObjects v o cs) ≡ true
+unfolding componentsObjects allBelow
+objects-below v k le o [] = refl
+objects-below v k le o (c ∷ cs) = go (componentAnswer v o c) refl (λ i. objects-below v k le i cs)
+  where
+    go : (r : Reached) → componentAnswer v o c ≡ r → ((i : ℕ) → allBelow k (componentsObjects v i cs) ≡ true)
+        → allBelow k (nextObjects r (λ i. componentsObjects v i cs)) ≡ true
+    go (Found i) e rest = let lt = found-below v o c i e in rw (lt-ltb i k (omega arith)) (rest i)
+    go BadName e rest = refl
+    go LongName e rest = refl
+    go NoObject e rest = refl
+    go WrongKind e rest = refl
+
+operands-below : (v : Volume) (k : ℕ) → length v ≤ k → 0 < k → (path : List ℕ) → allBelow k (lookupOperands v path) ≡ true
+unfolding lookupOperands allBelow
+operands-below v k le h path = go (pathTextOf path)
+  where
+    go : (t : PathText) → allBelow k (pathObjects t (componentsObjects v 0 (components path))) ≡ true
+    go Bad = refl
+    go Root = rw (lt-ltb 0 k h)
+    go Components = rw (lt-ltb 0 k h) (objects-below v k le 0 (components path))
+
+-- Marks that were none hold just lookup's operands.
+pub marks-held : (n b : ℕ) (s path : List ℕ) → n ≤ 256 → (marks : List ℕ) → marks ≡ objectsMarked (lookupOperands (readVolume n b s) path) (replicate 256 0)
+    → Holds marks (lookupOperands (readVolume n b s) path)
+marks-held n b s path most marks e =
+    let v = readVolume n b s in
+    let z = length-read n b s in
+    let below = operands-below v 256 (omega arith) (omega arith) path in
+    record {
+      same =
+          λ x.
+          ap (λ (k : List ℕ). stands k x) e ∙ marked-stands (lookupOperands v path) (replicate 256 0) below x
+          ∙ rw (zeros-at 256 x) (or-none (member x (lookupOperands v path)));
+    }
+  where
+    or-none : (t : Bool) → (t || false) ≡ t
+    or-none true = refl
+    or-none false = refl

@@ -1,0 +1,44 @@
+// "Lookup alone takes a path and gives an object number"; its "operands are the directories it searches and the object found".
+ghost use mathlib.Core.Path.{_≡_};
+ghost use mathlib.Core.List.{[], _∷_};
+ghost use Rattle.session.specs.Call.{geometry, buffers};
+ghost use Rattle.session.specs.Call;
+ghost use Rattle.session.specs.Step.{given, step};
+use crate::shared::first_refusal;
+use depend::note;
+use lookup::lookup::Reached;
+use returned::ACCEPTED;
+use returned::BAD_NAME;
+use returned::LONG_NAME;
+use returned::NO_OBJECT;
+use returned::Value;
+use returned::WRONG_KIND;
+
+pub fn lookup(
+    n: usize,
+    b: usize,
+    m: usize,
+    server: &[u8],
+    view: &[u8],
+    log: &mut [u8],
+    program: usize,
+    path: &[u8],
+) -> Value
+    ensures { λ r. ⌜ given (r .returned) (r .value ∷ []) [] (buffers (now (server .entry)) (now (view .entry)) (now (log .exit))) ≡ step (geometry n b m) (Call.lookup program (now (path .entry))) (buffers (now (server .entry)) (now (view .entry)) (now (log .entry))) ⌝ }
+{
+    let refused = first_refusal(n, b, m, server, view, log, program);
+    if refused != ACCEPTED {
+        return Value::refused(refused);
+    }
+    let mut marks = [0u8; 256];
+    match lookup::lookup::lookup(view, n, b, path, &mut marks) {
+        Reached::BadName => Value::refused(BAD_NAME),
+        Reached::LongName => Value::refused(LONG_NAME),
+        Reached::NoObject => Value::refused(NO_OBJECT),
+        Reached::WrongKind => Value::refused(WRONG_KIND),
+        Reached::Found(object) => {
+            note(log, m, program, &mut marks);
+            Value::of(ACCEPTED, object)
+        }
+    }
+}

@@ -1,0 +1,45 @@
+// "Read gives the smaller of the buffer length and what follows the offset; other bytes stay."
+ghost use mathlib.Core.Path.{_≡_};
+ghost use mathlib.Core.List.{[], _∷_};
+ghost use Rattle.session.specs.Call.{geometry, buffers};
+ghost use Rattle.session.specs.Call;
+ghost use Rattle.session.specs.Step.{given, step};
+use crate::shared::first_refusal;
+use crate::shared::note_object;
+use questions::reading::Copied;
+use returned::ACCEPTED;
+use returned::BAD_NUMBER;
+use returned::BAD_RANGE;
+use returned::NO_OBJECT;
+use returned::Value;
+use returned::WRONG_KIND;
+
+pub fn read(
+    n: usize,
+    b: usize,
+    m: usize,
+    server: &[u8],
+    view: &[u8],
+    log: &mut [u8],
+    program: usize,
+    object: usize,
+    offset: usize,
+    buffer: &mut [u8],
+) -> Value
+    ensures { λ r. ⌜ given (r .returned) (r .value ∷ []) (now (buffer .exit)) (buffers (now (server .entry)) (now (view .entry)) (now (log .exit))) ≡ step (geometry n b m) (Call.read program object offset (now (buffer .entry))) (buffers (now (server .entry)) (now (view .entry)) (now (log .entry))) ⌝ }
+{
+    let refused = first_refusal(n, b, m, server, view, log, program);
+    if refused != ACCEPTED {
+        return Value::refused(refused);
+    }
+    match questions::reading::read(view, n, b, object, offset, buffer) {
+        Copied::BadNumber => Value::refused(BAD_NUMBER),
+        Copied::NoObject => Value::refused(NO_OBJECT),
+        Copied::WrongKind => Value::refused(WRONG_KIND),
+        Copied::BadRange => Value::refused(BAD_RANGE),
+        Copied::Bytes(count) => {
+            note_object(log, m, program, object);
+            Value::of(ACCEPTED, count)
+        }
+    }
+}

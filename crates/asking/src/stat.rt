@@ -1,0 +1,40 @@
+// "stat (kind, length, usage)".
+ghost use mathlib.Core.Path.{_≡_};
+ghost use mathlib.Core.List.{[], _∷_};
+ghost use Rattle.session.specs.Call.{geometry, buffers};
+ghost use Rattle.session.specs.Call;
+ghost use Rattle.session.specs.Step.{given, step};
+use crate::shared::first_refusal;
+use crate::shared::note_object;
+use questions::object::Stat;
+use questions::object::stat_of;
+use returned::ACCEPTED;
+use returned::BAD_NUMBER;
+use returned::NO_OBJECT;
+use returned::Status;
+
+pub fn stat(
+    n: usize,
+    b: usize,
+    m: usize,
+    server: &[u8],
+    view: &[u8],
+    log: &mut [u8],
+    program: usize,
+    object: usize,
+) -> Status
+    ensures { λ r. ⌜ given (r .returned) (r .kind ∷ r .length ∷ r .usage ∷ []) [] (buffers (now (server .entry)) (now (view .entry)) (now (log .exit))) ≡ step (geometry n b m) (Call.stat program object) (buffers (now (server .entry)) (now (view .entry)) (now (log .entry))) ⌝ }
+{
+    let refused = first_refusal(n, b, m, server, view, log, program);
+    if refused != ACCEPTED {
+        return Status::refused(refused);
+    }
+    match stat_of(view, n, b, object) {
+        Stat::BadNumber => Status::refused(BAD_NUMBER),
+        Stat::NoObject => Status::refused(NO_OBJECT),
+        Stat::Is(kind, length, usage) => {
+            note_object(log, m, program, object);
+            Status::of(kind, length, usage)
+        }
+    }
+}

@@ -1,0 +1,107 @@
+-- `naming::make::make_refusal` meets its contract: the text's rows, then the directory's, then what is taken. Assumes nothing.
+use Prim.Native.Nat.{_<_}
+use lib.ListN.{length}
+use mathlib.Core.Path.{refl, sym, _∙_}
+use Rattle.entry.specs.Entry.{isUsed}
+use Rattle.search.specs.Volume.{search as searchIn}
+use Rattle.search.specs.Stored.{readVolume}
+use Rattle.search.specs.LentLaws.{length-read}
+use Rattle.search.specs.AnswerLaws.{settled, of-entry, found-at, found-nothing}
+use Rattle.changing.specs.ChangeLaws.{stops-first, goes-on}
+use Rattle.naming.specs.Code.Rows.{textRows}
+use Rattle.naming.specs.RowLaws.{newRows, object-past, object-root, new-refused, object-taken, name-taken, none-taken}
+use borrow.Author.Needs.{needs}
+use Rattle.naming.proofs.make.make_refusal.Statement.{statement}
+use Rattle.naming.proofs.make.make_refusal.Tie as tie
+
+text-refusal-requires : tie.Need-text-refusal-requires
+text-refusal-requires c κs = search needs
+
+returns : tie.Need-returns
+returns c =
+    let t = c .before in
+    let a = t .before .before .before .args in
+    stops-first (textRows (a .name .now)) (newRows (readVolume (a .n) (a .b) (a .view .now)) (a .parent) (a .name .now) (a .object)) (t .text-refusal .result) (t .text-refusal .ensures) (c .if1 .taken)
+
+returns-2 : tie.Need-returns-2
+returns-2 c =
+    let t = c .before .before in
+    let a = t .before .before .before .args in
+    let v = readVolume (a .n) (a .b) (a .view .now) in
+    goes-on 0 (textRows (a .name .now)) (newRows v (a .parent) (a .name .now) (a .object)) refl (t .text-refusal .result) 7 (t .text-refusal .ensures) (c .before .if1 .left) (object-past v (a .parent) (a .name .now) (a .object) (rw (length-read (a .n) (a .b) (a .view .now)) (c .if2 .taken)))
+
+returns-3 : tie.Need-returns-3
+returns-3 c =
+    let t = c .before .before .before in
+    let a = t .before .before .before .args in
+    let v = readVolume (a .n) (a .b) (a .view .now) in
+    goes-on 0 (textRows (a .name .now)) (newRows v (a .parent) (a .name .now) (a .object)) refl (t .text-refusal .result) 7 (t .text-refusal .ensures) (c .before .before .if1 .left) (object-root v (a .parent) (a .name .now) (a .object) (c .if3 .taken))
+
+directory-refusal-requires : tie.Need-directory-refusal-requires
+directory-refusal-requires c κs = search needs
+
+returns-4 : tie.Need-returns-4
+returns-4 c =
+    let t = c .before .before .before .before .before in
+    let a = t .before .before .before .args in
+    let v = readVolume (a .n) (a .b) (a .view .now) in
+    let low : a .object < length v = rw (length-read (a .n) (a .b) (a .view .now)) (c .before .before .before .if2 .left) in
+    goes-on 0 (textRows (a .name .now)) (newRows v (a .parent) (a .name .now) (a .object)) refl (t .text-refusal .result) (c .before .directory-refusal .result) (t .text-refusal .ensures) (c .before .before .before .before .if1 .left) (new-refused v (a .parent) (a .name .now) (a .object) low (c .before .before .if3 .left) (c .before .directory-refusal .result) (c .before .directory-refusal .ensures) (c .if4 .taken))
+
+entry-requires : tie.Need-entry-requires
+entry-requires c κs = search needs
+
+is-used-requires : tie.Need-is-used-requires
+is-used-requires c κs = search needs
+
+returns-5 : tie.Need-returns-5
+returns-5 c =
+    let t = c .before .before .before .before .before .before .before .before in
+    let a = t .before .before .before .args in
+    let v = readVolume (a .n) (a .b) (a .view .now) in
+    let low : a .object < length v = rw (length-read (a .n) (a .b) (a .view .now)) (c .before .before .before .before .before .before .if2 .left) in
+    goes-on 0 (textRows (a .name .now)) (newRows v (a .parent) (a .name .now) (a .object)) refl (t .text-refusal .result) 10 (t .text-refusal .ensures) (c .before .before .before .before .before .before .before .if1 .left) (object-taken v (a .parent) (a .name .now) (a .object) low (c .before .before .before .before .before .if3 .left) (c .before .before .before .before .directory-refusal .result) (c .before .before .before .before .directory-refusal .ensures) (c .before .before .before .if4 .left) (settled (of-entry isUsed (c .before .before .entry .ensures) (c .before .is-used .ensures)) (c .if5 .taken)))
+
+search-requires : tie.Need-search-requires
+search-requires c κs = search needs
+
+enum-told : tie.Need-enum-told
+enum-told c = search needs
+
+enum-told-2 : tie.Need-enum-told-2
+enum-told-2 c = search needs
+
+returns-6 : tie.Need-returns-6
+returns-6 c =
+    let t = c .before .before .before .before .before .before .before .before .before .before .before in
+    let a = t .before .before .before .args in
+    let v = readVolume (a .n) (a .b) (a .view .now) in
+    let low : a .object < length v = rw (length-read (a .n) (a .b) (a .view .now)) (c .before .before .before .before .before .before .before .before .before .if2 .left) in
+    goes-on 0 (textRows (a .name .now)) (newRows v (a .parent) (a .name .now) (a .object)) refl (t .text-refusal .result) 10 (t .text-refusal .ensures) (c .before .before .before .before .before .before .before .before .before .before .if1 .left) (name-taken v (a .parent) (a .name .now) (a .object) low (c .before .before .before .before .before .before .before .before .if3 .left) (c .before .before .before .before .before .before .before .directory-refusal .result) (c .before .before .before .before .before .before .before .directory-refusal .ensures) (c .before .before .before .before .before .before .if4 .left) (c .enum-told .given .0 .0) (found-at (searchIn v (a .parent) (a .name .now)) (c .enum-told .given .0 .0) (sym (c .enum-told .given .1) ∙ c .before .before .search .ensures)))
+
+returns-7 : tie.Need-returns-7
+returns-7 c =
+    let t = c .before .before .before .before .before .before .before .before .before .before .before in
+    let a = t .before .before .before .args in
+    let v = readVolume (a .n) (a .b) (a .view .now) in
+    let low : a .object < length v = rw (length-read (a .n) (a .b) (a .view .now)) (c .before .before .before .before .before .before .before .before .before .if2 .left) in
+    goes-on 0 (textRows (a .name .now)) (newRows v (a .parent) (a .name .now) (a .object)) refl (t .text-refusal .result) 0 (t .text-refusal .ensures) (c .before .before .before .before .before .before .before .before .before .before .if1 .left) (none-taken v (a .parent) (a .name .now) (a .object) low (c .before .before .before .before .before .before .before .before .if3 .left) (c .before .before .before .before .before .before .before .directory-refusal .result) (c .before .before .before .before .before .before .before .directory-refusal .ensures) (c .before .before .before .before .before .before .if4 .left) (settled (of-entry isUsed (c .before .before .before .before .before .entry .ensures) (c .before .before .before .before .is-used .ensures)) (c .before .before .before .if5 .left)) (found-nothing (searchIn v (a .parent) (a .name .now)) (sym (c .enum-told2 .given .1) ∙ c .before .before .search .ensures)))
+
+pub make-refusal-spec : {M : Type 1} → statement M
+make-refusal-spec =
+    tie.close
+    (tie.spec
+    text-refusal-requires
+    returns
+    returns-2
+    returns-3
+    directory-refusal-requires
+    returns-4
+    entry-requires
+    is-used-requires
+    returns-5
+    search-requires
+    enum-told
+    enum-told-2
+    returns-6
+    returns-7)

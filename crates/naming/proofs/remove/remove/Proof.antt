@@ -1,0 +1,119 @@
+-- `naming::remove::remove` meets its contract. Assumes nothing.
+use mathlib.Core.Path.{refl, sym, _∙_}
+use Rattle.records.specs.Operation.{Operation}
+use Rattle.log.specs.Stored.{readLog}
+use Rattle.session.specs.Call.{Call, geometry, buffers}
+use Rattle.admission.specs.AdmittedLaws.{admitted}
+use Rattle.changing.specs.ChangeLaws.{lent-refuses, change-refuses, change-accepted}
+use Rattle.changing.specs.IssuedLaws.{issuing-room, issuing-able, issued-outcome}
+use Rattle.changing.specs.ChangeLaws.{change-own}
+use Rattle.naming.specs.NamingLaws.{remove-change, remove-issues, remove-issuing, remove-record}
+use borrow.Author.Needs.{needs}
+use Rattle.naming.proofs.remove.remove.Statement.{statement}
+use Rattle.naming.proofs.remove.remove.Tie as tie
+
+admit-requires : tie.Need-admit-requires
+admit-requires c κs = search needs
+
+refused-requires : tie.Need-refused-requires
+refused-requires c κs = search needs
+
+same-length : tie.Need-same-length
+same-length c = search needs
+
+same-length-2 : tie.Need-same-length-2
+same-length-2 c = search needs
+
+returns : tie.Need-returns
+returns c =
+    let y = c .before .before in
+    let a = y .before .before .before .before .before .before .before .args in
+    lent-refuses (geometry (a .n) (a .b) (a .m)) (Call.remove (a .program) (a .parent) (a .name .now)) (buffers (a .server .now) (a .view .now) (a .log .now)) (λ k. refl) (y .admit .result) (y .admit .ensures) (c .before .if1 .taken) (c .refused .result) (c .refused .ensures)
+
+remove-refusal-requires : tie.Need-remove-refusal-requires
+remove-refusal-requires c κs =
+    let y = c .before .before in
+    let a = y .before .before .before .before .before .before .before .args in
+    admitted (a .n) (a .b) (a .m) (a .server .now) (a .view .now) (a .log .now) (sym (y .admit .ensures) ∙ c .before .if1 .left) .view .lent
+
+change-refusal-requires : tie.Need-change-refusal-requires
+change-refusal-requires c κs =
+    let y = c .before .before .before .before in
+    let a = y .before .before .before .before .before .before .before .args in
+    admitted (a .n) (a .b) (a .m) (a .server .now) (a .view .now) (a .log .now) (sym (y .admit .ensures) ∙ c .before .before .before .if1 .left) .log
+
+refused-requires-2 : tie.Need-refused-requires-2
+refused-requires-2 c κs = search needs
+
+same-length-3 : tie.Need-same-length-3
+same-length-3 c = search needs
+
+same-length-4 : tie.Need-same-length-4
+same-length-4 c = search needs
+
+returns-2 : tie.Need-returns-2
+returns-2 c =
+    let k = c .before .before in
+    let x = k .before .before in
+    let y = x .before .before .before in
+    let a = y .before .before .before .before .before .before .before .args in
+    let h = admitted (a .n) (a .b) (a .m) (a .server .now) (a .view .now) (a .log .now) (sym (y .admit .ensures) ∙ x .before .before .if1 .left) in
+    let ch = remove-change (a .n) (a .b) (a .m) (a .program) (a .server .now) (a .view .now) (a .log .now) h (a .parent) (a .name .now) (x .remove-refusal .result .refused) (x .remove-refusal .result .object) (x .remove-refusal .ensures) in
+    change-refuses ch (k .change-refusal .result) (k .change-refusal .ensures) (c .before .if2 .taken) (c .refused2 .result) (c .refused2 .ensures)
+
+issue-entry-requires : tie.Need-issue-entry-requires
+issue-entry-requires c κs =
+    let k = c .before .before .before in
+    let x = k .before .before in
+    let y = x .before .before .before in
+    let a = y .before .before .before .before .before .before .before .args in
+    let h = admitted (a .n) (a .b) (a .m) (a .server .now) (a .view .now) (a .log .now) (sym (y .admit .ensures) ∙ x .before .before .if1 .left) in
+    let ch = remove-change (a .n) (a .b) (a .m) (a .program) (a .server .now) (a .view .now) (a .log .now) h (a .parent) (a .name .now) (x .remove-refusal .result .refused) (x .remove-refusal .result .object) (x .remove-refusal .ensures) in
+    let is = x .remove-refusal .ensures .found (change-own ch (k .change-refusal .result) (k .change-refusal .ensures) (c .before .before .if2 .left)) in
+    let i = remove-issuing (a .n) (a .b) (a .m) (a .program) (a .server .now) (a .view .now) (a .log .now) h (a .parent) (a .name .now) (x .remove-refusal .result .object) is (change-accepted ch (k .change-refusal .result) (k .change-refusal .ensures) (c .before .before .if2 .left)) in
+    let r = remove-record (readLog (a .m) (a .log .now) .next) (a .program) (x .remove-refusal .result .object) (a .parent) (a .name .now) in
+    (h .log, (h .view, (issuing-room h i, (refl, issuing-able h i _ (r)))))
+
+of-requires : tie.Need-of-requires
+of-requires c κs = search needs
+
+same-length-5 : tie.Need-same-length-5
+same-length-5 c = search needs
+
+same-length-6 : tie.Need-same-length-6
+same-length-6 c = search needs
+
+returns-3 : tie.Need-returns-3
+returns-3 c =
+    let u = c .before .before .before .before .before in
+    let k = c .before .before .before .before .before .before .before .before .before in
+    let x = k .before .before in
+    let y = x .before .before .before in
+    let a = y .before .before .before .before .before .before .before .args in
+    let h = admitted (a .n) (a .b) (a .m) (a .server .now) (a .view .now) (a .log .now) (sym (y .admit .ensures) ∙ x .before .before .if1 .left) in
+    let ch = remove-change (a .n) (a .b) (a .m) (a .program) (a .server .now) (a .view .now) (a .log .now) h (a .parent) (a .name .now) (x .remove-refusal .result .refused) (x .remove-refusal .result .object) (x .remove-refusal .ensures) in
+    let is = x .remove-refusal .ensures .found (change-own ch (k .change-refusal .result) (k .change-refusal .ensures) (c .before .before .before .before .before .before .before .before .if2 .left)) in
+    let r = remove-record (readLog (a .m) (a .log .now) .next) (a .program) (x .remove-refusal .result .object) (a .parent) (a .name .now) in
+    issued-outcome ch (k .change-refusal .result) (k .change-refusal .ensures) (c .before .before .before .before .before .before .before .before .if2 .left) (Operation.remove (x .remove-refusal .result .object) (a .parent) (a .name .now)) (remove-issues (a .n) (a .b) (a .m) (a .program) (a .server .now) (a .view .now) (a .log .now) h (a .parent) (a .name .now) (x .remove-refusal .result .object) is) _ (r) (u .issue-entry .result)
+    (u .issue-entry .last .0) (u .issue-entry .last .1 .0) (u .issue-entry .ensures) (c .of .result) (c .of .ensures)
+
+pub remove-spec : {M : Type 1} → statement M
+remove-spec =
+    tie.close
+    (tie.spec
+    admit-requires
+    refused-requires
+    same-length
+    same-length-2
+    returns
+    remove-refusal-requires
+    change-refusal-requires
+    refused-requires-2
+    same-length-3
+    same-length-4
+    returns-2
+    issue-entry-requires
+    of-requires
+    same-length-5
+    same-length-6
+    returns-3)

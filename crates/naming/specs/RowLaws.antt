@@ -1,0 +1,374 @@
+-- The tables of create, make directory, remove and rename, part by part. Assumes nothing.
+use Prim.Native.Nat.{ℕ, _<_, _≤_}
+use native.Mathlib.Omega.{arith}
+use mathlib.Core.Path.{_≡_, refl, sym, ap, _∙_}
+use mathlib.Core.List.{List, [], _∷_, _++_}
+use mathlib.Core.Bool.{Bool, true, false, not, _&&_, _||_, cond}
+use mathlib.Core.Option.{Option, none, some}
+use lib.ListN.{length}
+use lib.Dec.{ltb, eqb}
+use borrow.Author.Tests.{eqb-true, eqb-false, eq-eqb, ne-eqb, lt-ltb, le-ltb}
+use Rattle.returned.specs.Returned
+use Rattle.names.specs.declared.NameText.{NameText}
+use Rattle.names.specs.declared.NameText.the-variants.{Fine, Bad, Long}
+use Rattle.names.specs.Name.{nameTextOf, nameNumber}
+use Rattle.entry.specs.Entry.{Entry, free, file, directory, isUsed, isDirectory, kindNumber}
+use Rattle.search.specs.Volume.{Volume, entryAt, search, hasChildren}
+use Rattle.search.specs.SearchLaws.{search-found, named-inv}
+use Rattle.applies.specs.Apply.{isAbsent}
+use Rattle.questions.specs.declared.object.Object.{Object}
+use Rattle.questions.specs.declared.object.Object.the-variants.{File, Directory, BadNumber, Free}
+use Rattle.questions.specs.Answer.{objectOf, objectAnswer}
+use Rattle.writer.specs.Code.Writer.{displacedBy}
+use Rattle.session.specs.Issue.{displaced}
+use Rattle.session.specs.Refusal.{Row, row, lower}
+use Rattle.session.specs.Model.{isBad, isLong, outside, isFree}
+use Rattle.session.specs.Edit.{ofFound, wrongRename, removeRows, renameRows}
+use Rattle.session.specs.Code.Table.{firstNumber}
+use Rattle.session.specs.RefusalLaws.{lower-is}
+use Rattle.changing.specs.ChangeLaws.{stops-first, goes-on}
+use Rattle.naming.specs.Code.Rows.{textRows, directoryRows, foundRows, moveRows, Finds, Moves}
+
+-- A text's rows give the number of the text.
+pub text-number : (n : List ℕ) → nameNumber (nameTextOf n) ≡ firstNumber (textRows n)
+unfolding firstNumber
+text-number n = go (nameTextOf n)
+  where
+    go : (t : NameText) → nameNumber t ≡ firstNumber (row Returned.badName (isBad t) ∷ row Returned.longName (isLong t) ∷ [])
+    go Fine = refl
+    go Bad = refl
+    go Long = refl
+
+-- The number by what an object's number names, where a directory is wanted.
+abbrev pub directoryNumber : Object → ℕ
+directoryNumber File = Returned.wrongKind
+directoryNumber Directory = Returned.accepted
+directoryNumber BadNumber = Returned.badNumber
+directoryNumber Free = Returned.noObject
+
+pub directory-number : (v : Volume) (o : ℕ) → directoryNumber (objectAnswer v o) ≡ firstNumber (directoryRows v o)
+unfolding firstNumber objectAnswer
+directory-number v o = go (ltb o (length v)) (entryAt v o)
+  where
+    go : (t : Bool) (e : Entry) → directoryNumber (cond t (objectOf e) BadNumber)
+        ≡ firstNumber (row Returned.badNumber (not t) ∷ row Returned.noObject (not (isUsed e)) ∷ row Returned.wrongKind (not (isDirectory e)) ∷ [])
+    go false e = refl
+    go true free = refl
+    go true (file n p c) = refl
+    go true (directory n p) = refl
+
+-- A name that is to be found in a directory: the directory's number refuses, or the search decides.
+module _ (v : Volume) (d : ℕ) (n : List ℕ) (k : ℕ) (e : k ≡ firstNumber (directoryRows v d)) where
+  pub found-refused : (k ≡ 0 → ⊥) → k ≡ firstNumber (foundRows v d n)
+  unfolding firstNumber
+  found-refused z = sym (go (outside v d) (isFree v d) (isDirectory (entryAt v d)) (isAbsent (search v d n)) (sym e))
+    where
+      go : (o f t a : Bool) → firstNumber (row 7 o ∷ row 8 f ∷ row 9 (not t) ∷ []) ≡ k → firstNumber (row 7 o ∷ row 8 (f || (t && a)) ∷ row 9 (not t) ∷ []) ≡ k
+      go true f t a h = h
+      go false true t a h = h
+      go false false false a h = h
+      go false false true a h = absurd (z (sym h))
+
+  found-decided : k ≡ 0 → firstNumber (foundRows v d n) ≡ firstNumber (row 8 (isAbsent (search v d n)) ∷ [])
+  unfolding firstNumber
+  found-decided z = go (outside v d) (isFree v d) (isDirectory (entryAt v d)) (isAbsent (search v d n)) (sym e ∙ z)
+    where
+      go : (o f t a : Bool) → firstNumber (row 7 o ∷ row 8 f ∷ row 9 (not t) ∷ []) ≡ 0
+          → firstNumber (row 7 o ∷ row 8 (f || (t && a)) ∷ row 9 (not t) ∷ []) ≡ firstNumber (row 8 a ∷ [])
+      go true f t a h = absurd (omega arith)
+      go false true t a h = absurd (omega arith)
+      go false false false a h = absurd (omega arith)
+      go false false true a h = refl
+
+  pub found-absent : k ≡ 0 → search v d n ≡ none → 8 ≡ firstNumber (foundRows v d n)
+  unfolding firstNumber
+  found-absent z h = sym (found-decided z ∙ ap (λ (f : Option ℕ). firstNumber (row 8 (isAbsent f) ∷ [])) h)
+
+  pub found-there : k ≡ 0 → (i : ℕ) → search v d n ≡ some i → 0 ≡ firstNumber (foundRows v d n)
+  unfolding firstNumber
+  found-there z i h = sym (found-decided z ∙ ap (λ (f : Option ℕ). firstNumber (row 8 (isAbsent f) ∷ [])) h)
+
+or-true : (a : Bool) → (a || true) ≡ true
+or-true true = refl
+or-true false = refl
+
+or-false : (a : Bool) → (a || false) ≡ a
+or-false true = refl
+or-false false = refl
+
+-- What is asked after the text of a new name.
+abbrev pub newRows : Volume → ℕ → List ℕ → ℕ → List Row
+newRows v d n o =
+    row Returned.badNumber (outside v d || (outside v o || eqb o 0))
+    ∷ row Returned.noObject (isFree v d)
+    ∷ row Returned.wrongKind (not (isDirectory (entryAt v d)))
+    ∷ row Returned.taken (not (isAbsent (search v d n)) || isUsed (entryAt v o))
+    ∷ []
+
+abbrev pub takenRows : Volume → ℕ → List ℕ → ℕ → List Row
+takenRows v d n o = row Returned.taken (not (isAbsent (search v d n)) || isUsed (entryAt v o)) ∷ []
+
+module _ (v : Volume) (d : ℕ) (n : List ℕ) (o : ℕ) where
+  -- The new object's number is none.
+  bad-object : (outside v o || eqb o 0) ≡ true → 7 ≡ firstNumber (newRows v d n o)
+  unfolding firstNumber
+  bad-object h = rw (h, or-true (outside v d))
+
+  pub object-past : length v ≤ o → 7 ≡ firstNumber (newRows v d n o)
+  object-past h = bad-object (rw (le-ltb o (length v) h))
+
+  pub object-root : o ≡ 0 → 7 ≡ firstNumber (newRows v d n o)
+  object-root h = bad-object (rw (eq-eqb o 0 h) (or-true (outside v o)))
+
+  module _ (below : o < length v) (other : o ≡ 0 → ⊥) where
+    -- It is one, so the directory decides, and then what is taken.
+    new-parts : firstNumber (newRows v d n o) ≡ firstNumber (directoryRows v d ++ takenRows v d n o)
+    unfolding firstNumber
+    new-parts = rw (lt-ltb o (length v) below, ne-eqb o 0 other, or-false (outside v d))
+
+    module _ (k : ℕ) (e : k ≡ firstNumber (directoryRows v d)) where
+      pub new-refused : (k ≡ 0 → ⊥) → k ≡ firstNumber (newRows v d n o)
+      new-refused z = stops-first (directoryRows v d) (takenRows v d n o) k e z ∙ sym new-parts
+
+      new-decided : k ≡ 0 → (j : ℕ) → j ≡ firstNumber (takenRows v d n o) → j ≡ firstNumber (newRows v d n o)
+      new-decided z j f = goes-on 0 (directoryRows v d) (takenRows v d n o) refl k j e z f ∙ sym new-parts
+
+      pub object-taken : k ≡ 0 → isUsed (entryAt v o) ≡ true → 10 ≡ firstNumber (newRows v d n o)
+      unfolding firstNumber
+      object-taken z h = new-decided z 10 (rw (h, or-true (not (isAbsent (search v d n)))))
+
+      pub name-taken : k ≡ 0 → (i : ℕ) → search v d n ≡ some i → 10 ≡ firstNumber (newRows v d n o)
+      unfolding firstNumber
+      name-taken z i h = new-decided z 10 (rw h)
+
+      pub none-taken : k ≡ 0 → isUsed (entryAt v o) ≡ false → search v d n ≡ none → 0 ≡ firstNumber (newRows v d n o)
+      unfolding firstNumber
+      none-taken z u h = new-decided z 0 (rw (h, u))
+
+-- Two names: the lower number of their texts.
+abbrev pub textsRows : List ℕ → List ℕ → List Row
+textsRows n s = row Returned.badName (isBad (nameTextOf n) || isBad (nameTextOf s)) ∷ row Returned.longName (isLong (nameTextOf n) || isLong (nameTextOf s)) ∷ []
+
+pub texts-number : (n s : List ℕ) → lower (firstNumber (textRows n)) (firstNumber (textRows s)) ≡ firstNumber (textsRows n s)
+unfolding firstNumber
+texts-number n s = go (isBad (nameTextOf n)) (isBad (nameTextOf s)) (isLong (nameTextOf n)) (isLong (nameTextOf s))
+  where
+    go : (a b c d : Bool) → lower (firstNumber (row 5 a ∷ row 6 c ∷ [])) (firstNumber (row 5 b ∷ row 6 d ∷ [])) ≡ firstNumber (row 5 (a || b) ∷ row 6 (c || d) ∷ [])
+    go true true c d = refl
+    go true false c true = refl
+    go true false c false = refl
+    go false true true d = refl
+    go false true false d = refl
+    go false false true true = refl
+    go false false true false = refl
+    go false false false true = refl
+    go false false false false = refl
+
+-- The conditions that both sides of a rename have, and what is asked after the texts of its names.
+abbrev noNumbers : Volume → ℕ → ℕ → Bool
+noNumbers v d e = outside v d || outside v e
+
+abbrev noObjects : Volume → ℕ → List ℕ → ℕ → Bool
+noObjects v d n e = (isFree v d || isFree v e) || (isDirectory (entryAt v d) && isAbsent (search v d n))
+
+abbrev noDirectories : Volume → ℕ → ℕ → Bool
+noDirectories v d e = not (isDirectory (entryAt v d)) || not (isDirectory (entryAt v e))
+
+abbrev displacesFull : Volume → ℕ → List ℕ → ℕ → List ℕ → Bool
+displacesFull v d n e s = ofFound (search v d n) (λ o. ofFound (displaced o (search v e s)) (hasChildren v))
+
+abbrev pub placesRows : Volume → ℕ → List ℕ → ℕ → List ℕ → List Row
+placesRows v d n e s =
+    row Returned.badNumber (noNumbers v d e)
+    ∷ row Returned.noObject (noObjects v d n e)
+    ∷ row Returned.wrongKind (noDirectories v d e || ofFound (search v d n) (wrongRename v d e s))
+    ∷ row Returned.notEmpty (displacesFull v d n e s)
+    ∷ []
+
+abbrev sidesRows : Volume → ℕ → List ℕ → ℕ → List Row
+sidesRows v d n e =
+    row Returned.badNumber (noNumbers v d e) ∷ row Returned.noObject (noObjects v d n e) ∷ row Returned.wrongKind (noDirectories v d e) ∷ []
+
+-- the lower number of two directories' rows is that of both together
+both-number : (a₁ a₂ a₃ b₁ b₂ b₃ : Bool) → lower (firstNumber (row 7 a₁ ∷ row 8 a₂ ∷ row 9 a₃ ∷ [])) (firstNumber (row 7 b₁ ∷ row 8 b₂ ∷ row 9 b₃ ∷ []))
+    ≡ firstNumber (row 7 (a₁ || b₁) ∷ row 8 (a₂ || b₂) ∷ row 9 (a₃ || b₃) ∷ [])
+unfolding firstNumber
+both-number true a₂ a₃ true b₂ b₃ = refl
+both-number true a₂ a₃ false true b₃ = refl
+both-number true a₂ a₃ false false true = refl
+both-number true a₂ a₃ false false false = refl
+both-number false true a₃ true b₂ b₃ = refl
+both-number false true a₃ false true b₃ = refl
+both-number false true a₃ false false true = refl
+both-number false true a₃ false false false = refl
+both-number false false true true b₂ b₃ = refl
+both-number false false true false true b₃ = refl
+both-number false false true false false true = refl
+both-number false false true false false false = refl
+both-number false false false true b₂ b₃ = refl
+both-number false false false false true b₃ = refl
+both-number false false false false false true = refl
+both-number false false false false false false = refl
+
+or-swap : (a b c : Bool) → ((a || c) || b) ≡ ((a || b) || c)
+or-swap true b c = refl
+or-swap false true true = refl
+or-swap false true false = refl
+or-swap false false true = refl
+or-swap false false false = refl
+
+-- with 0 of both, both are 0
+pub lower-zero : (a b : ℕ) → lower a b ≡ 0 → (a ≡ 0) × (b ≡ 0)
+lower-zero a b h = let l = lower-is a b in (go a (λ z. l .first z .1 h), go b (λ z. l .second z .1 h))
+  where
+    go : (j : ℕ) → ((j ≡ 0 → ⊥) → ⊥) → j ≡ 0
+    go j f = pick (eqb j 0) refl
+      where
+        pick : (t : Bool) → eqb j 0 ≡ t → j ≡ 0
+        pick true e = eqb-true j 0 e
+        pick false e = absurd (f (eqb-false j 0 e))
+
+module _ (v : Volume) (d : ℕ) (n : List ℕ) (e : ℕ) (s : List ℕ) where
+  sides-number : lower (firstNumber (foundRows v d n)) (firstNumber (directoryRows v e)) ≡ firstNumber (sidesRows v d n e)
+  sides-number =
+      both-number (outside v d) (isFree v d || (isDirectory (entryAt v d) && isAbsent (search v d n))) (not (isDirectory (entryAt v d)))
+      (outside v e) (isFree v e) (not (isDirectory (entryAt v e)))
+      ∙ rw (or-swap (isFree v d) (isFree v e) (isDirectory (entryAt v d) && isAbsent (search v d n)))
+
+  module _ (i j : ℕ) (a : i ≡ firstNumber (foundRows v d n)) (b : j ≡ firstNumber (directoryRows v e)) (k : ℕ) (is : k ≡ lower i j) where
+    whole : k ≡ firstNumber (sidesRows v d n e)
+    whole = is ∙ rw (a, b) sides-number
+
+    -- A number of either side refuses.
+    pub places-refused : (k ≡ 0 → ⊥) → k ≡ firstNumber (placesRows v d n e s)
+    unfolding firstNumber
+    places-refused z = sym (go (noNumbers v d e) (noObjects v d n e) (noDirectories v d e) (ofFound (search v d n) (wrongRename v d e s)) (displacesFull v d n e s) (sym whole))
+      where
+        go : (p q r w x : Bool) → firstNumber (row 7 p ∷ row 8 q ∷ row 9 r ∷ []) ≡ k → firstNumber (row 7 p ∷ row 8 q ∷ row 9 (r || w) ∷ row 11 x ∷ []) ≡ k
+        go true q r w x h = h
+        go false true r w x h = h
+        go false false true w x h = h
+        go false false false w x h = absurd (z (sym h))
+
+    -- With none, what was found decides.
+    pub places-decided : k ≡ 0 → (o : ℕ) → search v d n ≡ some o → firstNumber (moveRows v d e o (displaced o (search v e s))) ≡ firstNumber (placesRows v d n e s)
+    unfolding firstNumber
+    places-decided z o h =
+        ap (λ (f : Option ℕ). firstNumber (row 9 (ofFound f (wrongRename v d e s)) ∷ row 11 (ofFound f (λ i. ofFound (displaced i (search v e s)) (hasChildren v))) ∷ [])) (sym h)
+        ∙ sym (go (noNumbers v d e) (noObjects v d n e) (noDirectories v d e) (ofFound (search v d n) (wrongRename v d e s)) (displacesFull v d n e s) (sym whole ∙ z))
+      where
+        go : (p q r w x : Bool) → firstNumber (row 7 p ∷ row 8 q ∷ row 9 r ∷ []) ≡ 0
+            → firstNumber (row 7 p ∷ row 8 q ∷ row 9 (r || w) ∷ row 11 x ∷ []) ≡ firstNumber (row 9 w ∷ row 11 x ∷ [])
+        go true q r w x y = absurd (omega arith)
+        go false true r w x y = absurd (omega arith)
+        go false false true w x y = absurd (omega arith)
+        go false false false w x y = refl
+
+-- What a search finds is an object of the volume, and not the root.
+pub found-object : (v : Volume) (d : ℕ) (n : List ℕ) (i : ℕ) → search v d n ≡ some i → (i < length v) × (i ≡ 0 → ⊥)
+found-object v d n i h = let f = search-found v d n i h in (f .1, named-inv v d n i (f .0) .other)
+
+-- Remove, part by part: the text, the name, and whether what was found is empty.
+abbrev pub emptyRows : Volume → ℕ → List ℕ → List Row
+emptyRows v d n = row Returned.notEmpty (ofFound (search v d n) (hasChildren v)) ∷ []
+
+empty-number : (v : Volume) (d : ℕ) (n : List ℕ) (o : ℕ) → search v d n ≡ some o → (t : Bool) → hasChildren v o ≡ t → firstNumber (emptyRows v d n) ≡ cond t 11 0
+unfolding firstNumber
+empty-number v d n o h t k = rw (h, k)
+
+module _ (v : Volume) (d : ℕ) (n : List ℕ) (t : ℕ) (text : t ≡ firstNumber (textRows n)) where
+  pub remove-text : (t ≡ 0 → ⊥) → Finds v d n (removeRows v d n) t 0
+  remove-text z = record { number = stops-first (textRows n) (foundRows v d n ++ emptyRows v d n) t text z; found = λ y. absurd (z y) }
+
+  module _ (z : t ≡ 0) (k o : ℕ) (f : Finds v d n (foundRows v d n) k o) where
+    behind : (j : ℕ) → j ≡ firstNumber (foundRows v d n ++ emptyRows v d n) → j ≡ firstNumber (removeRows v d n)
+    behind j e = goes-on 0 (textRows n) (foundRows v d n ++ emptyRows v d n) refl t j text z e
+
+    pub remove-refused : (k ≡ 0 → ⊥) → Finds v d n (removeRows v d n) k o
+    remove-refused y = record { number = behind k (stops-first (foundRows v d n) (emptyRows v d n) k (f .number) y); found = λ x. absurd (y x) }
+
+    pub remove-full : k ≡ 0 → hasChildren v o ≡ true → Finds v d n (removeRows v d n) 11 0
+    remove-full y h =
+        record {
+          number = behind 11 (goes-on 0 (foundRows v d n) (emptyRows v d n) refl k 11 (f .number) y (sym (empty-number v d n o (f .found y) true h)));
+          found = λ x. absurd (omega arith);
+        }
+
+    pub remove-fine : k ≡ 0 → hasChildren v o ≡ false → Finds v d n (removeRows v d n) k o
+    remove-fine y h =
+        record {
+          number = behind k (goes-on 0 (foundRows v d n) (emptyRows v d n) refl k k (f .number) y (y ∙ sym (empty-number v d n o (f .found y) false h)));
+          found = f .found;
+        }
+
+-- What a rename displaces, as a number: 0 is none.
+module _ (v : Volume) (o e : ℕ) (s : List ℕ) where
+  pub displaces-itself : (i : ℕ) → search v e s ≡ some i → i ≡ o → none ≡ displaced o (search v e s)
+  displaces-itself i h q = rw (h, eq-eqb i o q)
+
+  pub displaces-another : (i : ℕ) → search v e s ≡ some i → (i ≡ o → ⊥) → displacedBy i ≡ displaced o (search v e s)
+  displaces-another i h q =
+      let z = found-object v e s i h .1 in
+      let low : 0 < i = omega arith in
+      rw (h, ne-eqb i o q, lt-ltb 0 i low)
+
+  pub displaces-none : search v e s ≡ none → none ≡ displaced o (search v e s)
+  displaces-none h = rw h
+
+-- What was found and what it displaces, test by test.
+module _ (v : Volume) (d e o t : ℕ) where
+  pub move-leaves : (isDirectory (entryAt v o) && not (eqb d e)) ≡ true → 9 ≡ firstNumber (moveRows v d e o (displacedBy t))
+  unfolding firstNumber
+  move-leaves h = rw h
+
+  module _ (stays : (isDirectory (entryAt v o) && not (eqb d e)) ≡ false) where
+    pub move-free : t ≡ 0 → 0 ≡ firstNumber (moveRows v d e o (displacedBy t))
+    unfolding firstNumber
+    move-free z = rw (stays, z)
+
+    module _ (other : t ≡ 0 → ⊥) where
+      displaces : displacedBy t ≡ some t
+      displaces = let low : 0 < t = omega arith in rw (lt-ltb 0 t low)
+
+      pub move-mixed : (kindNumber (entryAt v t) ≡ kindNumber (entryAt v o) → ⊥) → 9 ≡ firstNumber (moveRows v d e o (displacedBy t))
+      unfolding firstNumber
+      move-mixed q = rw (stays, displaces, ne-eqb (kindNumber (entryAt v t)) (kindNumber (entryAt v o)) q)
+
+      pub move-full : kindNumber (entryAt v t) ≡ kindNumber (entryAt v o) → hasChildren v t ≡ true → 11 ≡ firstNumber (moveRows v d e o (displacedBy t))
+      unfolding firstNumber
+      move-full q h = rw (stays, displaces, eq-eqb (kindNumber (entryAt v t)) (kindNumber (entryAt v o)) q, h)
+
+      pub move-fine : kindNumber (entryAt v t) ≡ kindNumber (entryAt v o) → hasChildren v t ≡ false → 0 ≡ firstNumber (moveRows v d e o (displacedBy t))
+      unfolding firstNumber
+      move-fine q h = rw (stays, displaces, eq-eqb (kindNumber (entryAt v t)) (kindNumber (entryAt v o)) q, h)
+
+-- Rename, part by part: the texts, the two sides, and what was found.
+module _ (v : Volume) (d : ℕ) (n : List ℕ) (e : ℕ) (s : List ℕ) (i j : ℕ) (first : i ≡ firstNumber (textRows n)) (second : j ≡ firstNumber (textRows s)) (t : ℕ)
+    (lowest : t ≡ lower i j) where
+  text : t ≡ firstNumber (textsRows n s)
+  text = lowest ∙ rw (first, second) (texts-number n s)
+
+  pub rename-text : (t ≡ 0 → ⊥) → Moves v d n e s t 0 0
+  rename-text z =
+      record { number = stops-first (textsRows n s) (placesRows v d n e s) t text z; found = λ y. absurd (z y); displaces = λ y. absurd (z y) }
+
+  module _ (z : t ≡ 0) (p q o : ℕ) (f : Finds v d n (foundRows v d n) p o) (to : q ≡ firstNumber (directoryRows v e)) (k : ℕ) (low : k ≡ lower p q) where
+    beyond : (x : ℕ) → x ≡ firstNumber (placesRows v d n e s) → x ≡ firstNumber (renameRows v d n e s)
+    beyond x h = goes-on 0 (textsRows n s) (placesRows v d n e s) refl t x text z h
+
+    pub rename-place : (k ≡ 0 → ⊥) → Moves v d n e s k 0 0
+    rename-place y =
+        record { number = beyond k (places-refused v d n e s p q (f .number) to k low y); found = λ x. absurd (y x); displaces = λ x. absurd (y x) }
+
+    pub rename-found : k ≡ 0 → search v d n ≡ some o
+    rename-found y = f .found (lower-zero p q (sym low ∙ y) .0)
+
+    pub rename-moved : k ≡ 0 → (r : ℕ) → displacedBy r ≡ displaced o (search v e s) → (x : ℕ) → x ≡ firstNumber (moveRows v d e o (displacedBy r)) → Moves v d n e s x o r
+    rename-moved y r h x g =
+        let is = rename-found y in
+        let moves = ap (λ (w : Option ℕ). firstNumber (moveRows v d e o w)) h in
+        record {
+          number = beyond x (g ∙ moves ∙ places-decided v d n e s p q (f .number) to k low y o is);
+          found = λ u. is;
+          displaces = λ u. h;
+        }

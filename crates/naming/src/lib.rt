@@ -1,0 +1,6 @@
+// Create, make directory, remove and rename: the calls that change names (document 01, "Calls").
+pub mod make;
+pub mod place;
+pub mod remove;
+pub mod rename;
+pub mod text;

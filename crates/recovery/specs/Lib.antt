@@ -1,0 +1,3 @@
+pub mod NumberLaws
+pub mod RenewLaws
+pub mod TakeLaws

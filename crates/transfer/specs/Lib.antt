@@ -1,0 +1,5 @@
+pub mod Code
+pub mod CutLaws
+pub mod PushLaws
+pub mod RowLaws
+pub mod SyncLaws

@@ -1,0 +1,89 @@
+// Fsync "needs d sends .. in issue order", of which the link carries k.
+ghost use mathlib.Core.Path.{_≡_};
+ghost use mathlib.Core.List.{[], _∷_};
+ghost use lib.ListN.{length};
+ghost use Rattle.search.specs.Stored.{readVolume};
+ghost use Rattle.search.specs.Code.Lent.{Lent};
+ghost use Rattle.log.specs.Stored.{logBytes, readLog};
+ghost use Rattle.session.specs.Call.{geometry, buffers};
+ghost use Rattle.session.specs.Call;
+ghost use Rattle.session.specs.Step.{given, step};
+ghost use Rattle.session.specs.Code.Table.{firstNumber};
+ghost use Rattle.transfer.specs.Code.Rows.{objectRows, syncRows};
+use admission::lent::admit;
+use admission::program::program_refusal;
+use fsync::Synced;
+use questions::object::Object;
+use questions::object::object_at;
+use returned::ACCEPTED;
+use returned::BAD_NUMBER;
+use returned::DAMAGED;
+use returned::LINK_LOST;
+use returned::NO_OBJECT;
+use returned::Value;
+use update::format::copy_volume;
+
+// "7 Bad number: object n or more", "8 No object: entry free".
+fn object_refusal(view: &[u8], n: usize, b: usize, object: usize) -> usize
+    requires { ⌜ Lent n b (now view) ⌝ }
+    ensures { λ r. ⌜ r ≡ firstNumber (objectRows (readVolume n b (now (view .entry))) object) ⌝ }
+{
+    match object_at(view, n, b, object) {
+        Object::BadNumber => BAD_NUMBER,
+        Object::Free => NO_OBJECT,
+        Object::File => ACCEPTED,
+        Object::Directory => ACCEPTED,
+    }
+}
+
+// The refusal of an fsync before its sends; 0 where there is none.
+fn sync_refusal(
+    view: &[u8],
+    log: &[u8],
+    n: usize,
+    b: usize,
+    m: usize,
+    program: usize,
+    object: usize,
+) -> usize
+    requires { ⌜ Lent n b (now view) ⌝ }
+    requires { ⌜ length (now log) ≡ logBytes m ⌝ }
+    ensures { λ r. ⌜ r ≡ firstNumber (syncRows program object (readVolume n b (now (view .entry))) (readLog m (now (log .entry)))) ⌝ }
+{
+    let refused = program_refusal(log, m, program);
+    if refused != ACCEPTED {
+        return refused;
+    }
+    object_refusal(view, n, b, object)
+}
+
+pub fn fsync(
+    n: usize,
+    b: usize,
+    m: usize,
+    server: &mut [u8],
+    view: &mut [u8],
+    log: &mut [u8],
+    program: usize,
+    object: usize,
+    sends: usize,
+) -> Value
+    ensures { λ r. ⌜ given (r .returned) (r .value ∷ []) [] (buffers (now (server .exit)) (now (view .exit)) (now (log .exit))) ≡ step (geometry n b m) (Call.fsync program object sends) (buffers (now (server .entry)) (now (view .entry)) (now (log .entry))) ⌝ }
+{
+    let wrong = admit(n, b, m, server, view, log);
+    if wrong != ACCEPTED {
+        return Value::refused(wrong);
+    }
+    let refused = sync_refusal(view, log, n, b, m, program, object);
+    if refused != ACCEPTED {
+        return Value::refused(refused);
+    }
+    match fsync::fsync(server, log, n, b, m, program, object, sends) {
+        Synced::Sent(count) => Value::of(ACCEPTED, count),
+        Synced::Stopped(count) => Value::of(DAMAGED, count),
+        Synced::Lost(count) => {
+            copy_volume(view, server);
+            Value::of(LINK_LOST, count)
+        }
+    }
+}

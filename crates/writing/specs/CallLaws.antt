@@ -1,0 +1,146 @@
+-- Write, set length and forder as changes: their tables, and what each issues where its table lets it pass. Assumes nothing.
+use Prim.Native.Nat.{ℕ, _%_, _<_}
+use native.Mathlib.Omega.{arith}
+use mathlib.Core.Path.{_≡_, refl, sym, ap, _∙_}
+use mathlib.Core.List.{List, [], _∷_, _++_}
+use mathlib.Core.Bool.{Bool, true, false, cond}
+use lib.ListN.{length}
+use lib.Dec.{eqb}
+use borrow.Author.Tests.{eqb-true, eqb-false}
+use Rattle.records.specs.declared.kind.Kind.{Kind}
+use Rattle.records.specs.declared.kind.Kind.the-variants.{Overwrite, Append}
+use Rattle.records.specs.Kind.{mapOfKind}
+use Rattle.records.specs.Operation.{Operation, recordOf}
+use Rattle.records.specs.Fields.{objectsOf}
+use Rattle.writer.specs.Code.Writer.{rangeRecord, forderRecord}
+use Rattle.entry.specs.Entry.{contentsOf}
+use Rattle.search.specs.Volume.{Volume, entryAt}
+use Rattle.search.specs.Stored.{readVolume}
+use Rattle.search.specs.LentLaws.{length-read}
+use Rattle.search.specs.Code.Lent.{Formed}
+use Rattle.applies.specs.Apply.{apply}
+use Rattle.log.specs.Stored.{readLog}
+use Rattle.issuing.specs.Code.Issued.{Waits, Issued}
+use Rattle.session.specs.Call.{Call, geometry}
+use Rattle.session.specs.Call
+use Rattle.session.specs.Refusal.{Row, row}
+use Rattle.session.specs.Model.{programRows}
+use Rattle.session.specs.Issue.{writes}
+use Rattle.session.specs.Edit.{roomRows, badRange, fileRows, writeRows, writeOf, lengthRows, setLengthOf, forderRows, forderOf}
+use Rattle.session.specs.Step.{answerOf}
+use Rattle.session.specs.Code.Table.{firstNumber, rising}
+use Rattle.session.specs.TableLaws.{first-left, first-right}
+use Rattle.session.specs.IssuingLaws.{Issuing}
+use Rattle.session.specs.EditLaws.{write-accepted, length-accepted, forder-accepted}
+use Rattle.admission.specs.Code.Admitted.{modelIn, Admitted}
+use Rattle.changing.specs.Code.Change.{changeNumber, Change}
+use Rattle.changing.specs.ChangeLaws.{change-passes, change-accepted}
+use Rattle.writing.specs.FileLaws.{file-below}
+use Rattle.writing.specs.ListLaws.{list-even}
+
+-- Where two tables one behind the other let pass, each does.
+both-pass : (k : ℕ) (a b : List Row) → rising k a ≡ true → 0 ≡ firstNumber (a ++ b) → (0 ≡ firstNumber a) × (0 ≡ firstNumber b)
+both-pass k a b h e = go (eqb (firstNumber a) 0) refl
+  where
+    go : (t : Bool) → eqb (firstNumber a) 0 ≡ t → (0 ≡ firstNumber a) × (0 ≡ firstNumber b)
+    go true z = let y = eqb-true (firstNumber a) 0 z in (sym y, e ∙ first-right k a b h y)
+    go false z = let n = eqb-false (firstNumber a) 0 z in absurd (n (sym (e ∙ first-left (firstNumber a) a b refl n)))
+
+-- The record of a write by its kind is that of the operation that a write issues.
+pub range-kind : (t : Bool) → mapOfKind (cond t Append Overwrite) ≡ mapOfKind Overwrite
+range-kind true = refl
+range-kind false = refl
+
+pub range-record : (t : Bool) (q p o f : ℕ) (d : List ℕ) → rangeRecord (cond t Append Overwrite) q p o f d ≡ recordOf q p (cond t (Operation.append o f d) (Operation.overwrite o f d))
+unfolding rangeRecord
+range-record true q p o f d = refl
+range-record false q p o f d = refl
+
+module _ {n b m : ℕ} {s v l : List ℕ} (h : Admitted n b m s v l) (p : ℕ) where
+  module _ (o f : ℕ) (d : List ℕ) (own : ℕ) (number : own ≡ firstNumber (writeRows b (readVolume n b v) o f d)) where
+    pub write-change : Change n b m p s v l (Call.write p o f d) own
+    unfolding answerOf writeOf
+    write-change =
+        record {
+          held = h;
+          rows = writeRows b (readVolume n b v) o f d;
+          is = refl;
+          rise = refl;
+          number = number;
+          one = λ z. refl;
+          plain = λ k. refl;
+          quiet = λ k. refl;
+          effects = refl;
+        }
+
+    module _ (k : ℕ) (e : k ≡ changeNumber (geometry n b m) (readLog m l) p own) (z : k ≡ 0) where
+      pub write-issuing : Issuing (geometry n b m) (modelIn n b m s v l) p (writes (readVolume n b v) o f d ∷ [])
+      unfolding answerOf
+      write-issuing = write-accepted (geometry n b m) (modelIn n b m s v l) (h .holds .sound) p o f d (change-accepted write-change k e z)
+
+      -- The object of an accepted write is below n.
+      pub write-below : o < n
+      unfolding write-change
+      write-below =
+          let x = modelIn n b m s v l in
+          let rest = writeRows b (readVolume n b v) o f d ++ roomRows (geometry n b m) (Call.write p o f d) x in
+          let y = both-pass 0 (programRows (readLog m l) p) rest refl (change-passes write-change k e z) .1 in
+          let range = row 12 (badRange b (length (contentsOf (entryAt (readVolume n b v) o))) f (length d)) in
+          rw (length-read n b v) at (file-below (readVolume n b v) o (both-pass 4 (fileRows (readVolume n b v) o []) (range ∷ roomRows (geometry n b m) (Call.write p o f d) x) refl y .0))
+
+  module _ (o f : ℕ) (own : ℕ) (number : own ≡ firstNumber (lengthRows b (readVolume n b v) o f)) where
+    pub length-change : Change n b m p s v l (Call.setLength p o f) own
+    unfolding answerOf setLengthOf
+    length-change =
+        record {
+          held = h;
+          rows = lengthRows b (readVolume n b v) o f;
+          is = refl;
+          rise = refl;
+          number = number;
+          one = λ z. refl;
+          plain = λ k. refl;
+          quiet = λ k. refl;
+          effects = refl;
+        }
+
+    pub length-issuing : (k : ℕ) → k ≡ changeNumber (geometry n b m) (readLog m l) p own → k ≡ 0
+        → Issuing (geometry n b m) (modelIn n b m s v l) p (Operation.setLength o f ∷ [])
+    unfolding answerOf
+    length-issuing k e z = length-accepted (geometry n b m) (modelIn n b m s v l) (h .holds .sound) p o f (change-accepted length-change k e z)
+
+  module _ (d : List ℕ) (own : ℕ) (number : own ≡ firstNumber (forderRows (readVolume n b v) d)) where
+    pub forder-change : Change n b m p s v l (Call.forder p d) own
+    unfolding answerOf forderOf
+    forder-change =
+        record {
+          held = h;
+          rows = forderRows (readVolume n b v) d;
+          is = refl;
+          rise = refl;
+          number = number;
+          one = λ z. refl;
+          plain = λ k. refl;
+          quiet = λ k. refl;
+          effects = refl;
+        }
+
+    module _ (k : ℕ) (e : k ≡ changeNumber (geometry n b m) (readLog m l) p own) (z : k ≡ 0) where
+      pub forder-issuing : Issuing (geometry n b m) (modelIn n b m s v l) p (Operation.forder (objectsOf d) ∷ [])
+      unfolding answerOf
+      forder-issuing = forder-accepted (geometry n b m) (modelIn n b m s v l) (h .holds .sound) p d (change-accepted forder-change k e z)
+
+      -- The list of an accepted forder is of even length.
+      pub forder-even : length d % 2 ≡ 0
+      unfolding forder-change
+      forder-even =
+          let x = modelIn n b m s v l in
+          let room = roomRows (geometry n b m) (Call.forder p d) x in
+          let y = both-pass 0 (programRows (readLog m l) p) (forderRows (readVolume n b v) d ++ room) refl (change-passes forder-change k e z) .1 in
+          list-even (readVolume n b v) d (both-pass 4 (forderRows (readVolume n b v) d) room refl y .0)
+
+-- The log's part of an issued forder is all of it: the view tells of the same volume.
+pub forder-issued : {n b m : ℕ} {v : List ℕ} → Formed n b v → (q p x : ℕ) (d log l : List ℕ)
+    → Waits m x log (readLog m l) (forderRecord q p d) → Issued n b m x log v (readVolume n b v) (readLog m l) (forderRecord q p d)
+unfolding forderRecord apply
+forder-issued f q p x d log l w = record { gives = w .gives; log = w .log; view = sym (f .stored) }

@@ -1,0 +1,99 @@
+-- What is asked of an object that must be a file, and of a range in it. Assumes nothing.
+use Prim.Native.Nat.{ℕ, _+_, _*_, _-_, _%_, _≤_, _<_}
+use native.Mathlib.Omega.{arith}
+use mathlib.Core.Path.{_≡_, refl, sym, ap, _∙_}
+use mathlib.Core.List.{List, [], _∷_, _++_}
+use mathlib.Core.Bool.{Bool, true, false, not, _&&_, _||_, cond}
+use lib.ListN.{length}
+use lib.Dec.{ltb, eqb}
+use borrow.Author.Tests.{ltb-true, ltb-false, lt-ltb, le-ltb, eq-eqb, ne-eqb}
+use Rattle.returned.specs.Returned
+use Rattle.entry.specs.Entry.{Entry, free, file, directory, isUsed, isFile}
+use Rattle.search.specs.Volume.{Volume, entryAt}
+use Rattle.questions.specs.declared.object.Object.{Object}
+use Rattle.questions.specs.declared.object.Object.the-variants.{File, Directory, BadNumber, Free}
+use Rattle.questions.specs.Answer.{objectOf, objectAnswer}
+use Rattle.session.specs.Refusal.{Row, row}
+use Rattle.session.specs.Edit.{badRange, fileRows}
+use Rattle.session.specs.Code.Table.{firstNumber, rising}
+use Rattle.session.specs.TableLaws.{first-left, first-right}
+
+pub or-right : (a b : Bool) → b ≡ true → a || b ≡ true
+or-right true b e = refl
+or-right false b e = e
+
+pub or-left : (a b : Bool) → a ≡ true → a || b ≡ true
+or-left a b e = rw e
+
+-- the number for what an object's number names, where a file is asked for
+abbrev pub fileNumber : Object → ℕ
+fileNumber File = Returned.accepted
+fileNumber Directory = Returned.wrongKind
+fileNumber BadNumber = Returned.badNumber
+fileNumber Free = Returned.noObject
+
+module _ (v : Volume) (o : ℕ) where
+  -- What the object's number names decides.
+  pub file-number : (x : Object) → x ≡ objectAnswer v o → fileNumber x ≡ firstNumber (fileRows v o [])
+  unfolding firstNumber objectAnswer
+  file-number x h = ap fileNumber h ∙ go (ltb o (length v)) (entryAt v o)
+    where
+      go : (t : Bool) (e : Entry) → fileNumber (cond t (objectOf e) BadNumber)
+          ≡ firstNumber (row Returned.badNumber (not t) ∷ row Returned.noObject (not (isUsed e)) ∷ row Returned.wrongKind (not (isFile e)) ∷ [])
+      go false e = refl
+      go true free = refl
+      go true (file a p c) = refl
+      go true (directory a p) = refl
+
+  -- An object that is not refused is below n.
+  pub file-below : 0 ≡ firstNumber (fileRows v o []) → o < length v
+  unfolding firstNumber
+  file-below = go (ltb o (length v)) refl
+    where
+      go : (t : Bool) → ltb o (length v) ≡ t
+          → 0 ≡ firstNumber (row Returned.badNumber (not t) ∷ row Returned.noObject (not (isUsed (entryAt v o))) ∷ row Returned.wrongKind (not (isFile (entryAt v o))) ∷ [])
+          → o < length v
+      go true e h = ltb-true o (length v) e
+      go false e h = absurd (omega arith)
+
+  -- The object's own refusal is that of a table that asks more behind it, and where there is none a bad range refuses.
+  pub file-refused : (l : List Row) (k : ℕ) → k ≡ firstNumber (fileRows v o []) → (k ≡ 0 → ⊥) → k ≡ firstNumber (fileRows v o l)
+  file-refused l k e z = sym (first-left k (fileRows v o []) l (sym e) z)
+
+  pub range-refused : (t : Bool) → 0 ≡ firstNumber (fileRows v o []) → t ≡ true → Returned.badRange ≡ firstNumber (fileRows v o (row Returned.badRange t ∷ []))
+  unfolding firstNumber
+  range-refused t e h = sym (first-right 0 (fileRows v o []) (row Returned.badRange t ∷ []) refl (sym e) ∙ rw h)
+
+  pub range-passed : (t : Bool) → 0 ≡ firstNumber (fileRows v o []) → t ≡ false → Returned.accepted ≡ firstNumber (fileRows v o (row Returned.badRange t ∷ []))
+  unfolding firstNumber
+  range-passed t e h = sym (first-right 0 (fileRows v o []) (row Returned.badRange t ∷ []) refl (sym e) ∙ rw h)
+
+-- "write of 0 bytes, across blocks or the end of file, beyond length or b": each makes a range bad.
+module _ (b len f n : ℕ) where
+  pub empty-bad : n ≡ 0 → badRange b len f n ≡ true
+  empty-bad e = rw (eq-eqb n 0 e)
+
+  pub across-bad : 1024 < f % 1024 + n → badRange b len f n ≡ true
+  across-bad h = or-left _ _ (or-right (eqb n 0) _ (lt-ltb 1024 (f % 1024 + n) h))
+
+  pub beyond-bad : len < f → badRange b len f n ≡ true
+  beyond-bad h = or-right (eqb n 0 || ltb 1024 (f % 1024 + n)) _ (rw (lt-ltb len f h))
+
+  pub end-bad : f < len → len < f + n → badRange b len f n ≡ true
+  end-bad h k = or-right (eqb n 0 || ltb 1024 (f % 1024 + n)) _ (rw (lt-ltb f len h, lt-ltb len (f + n) k) (or-left _ _ (or-right (ltb len f) true refl)))
+
+  -- Where none of these holds the last decides.
+  pub last-bad : (n ≡ 0 → ⊥) → f % 1024 + n ≤ 1024 → f ≤ len → (f < len → f + n ≤ len) → badRange b len f n ≡ ltb (1024 * b) (f + n)
+  last-bad z h k i = rw (ne-eqb n 0 z, le-ltb 1024 (f % 1024 + n) h, le-ltb len f k) (ap (λ (t : Bool). t || ltb (1024 * b) (f + n)) (go (ltb f len) refl))
+    where
+      go : (t : Bool) → ltb f len ≡ t → (t && ltb len (f + n)) ≡ false
+      go true e = le-ltb len (f + n) (i (ltb-true f len e))
+      go false e = refl
+
+-- What is left behind an offset is compared with a count as the whole with their sum.
+pub room-left : (whole f n : ℕ) → f ≤ whole → ltb (whole - f) n ≡ ltb whole (f + n)
+room-left whole f n h = go (ltb (whole - f) n) refl
+  where
+    go : (t : Bool) → ltb (whole - f) n ≡ t → t ≡ ltb whole (f + n)
+    go true e = let k : whole - f < n = ltb-true _ _ e in sym (lt-ltb whole (f + n) (omega arith))
+    go false e = let k : n ≤ whole - f = ltb-false _ _ e in sym (le-ltb whole (f + n) (omega arith))

@@ -1,0 +1,118 @@
+// "Write lies in one block: wholly inside the length (overwrite) or beginning at the length (append)."
+ghost use mathlib.Core.Path.{_≡_};
+ghost use Prim.Native.Nat.{_<_, _≤_};
+ghost use mathlib.Core.Bool.{cond};
+ghost use mathlib.Core.List.{[], _∷_};
+ghost use lib.ListN.{length};
+ghost use lib.Dec.{eqb};
+ghost use Rattle.entry.specs.Entry.{contentsOf};
+ghost use Rattle.search.specs.Volume.{entryAt};
+ghost use Rattle.search.specs.Stored.{readVolume};
+ghost use Rattle.search.specs.Code.Lent.{Lent};
+ghost use Rattle.session.specs.Call.{geometry, buffers};
+ghost use Rattle.session.specs.Call;
+ghost use Rattle.session.specs.Step.{given, step};
+ghost use Rattle.session.specs.Edit.{badRange, writeRows};
+ghost use Rattle.session.specs.Code.Table.{firstNumber};
+use crate::file::file_refusal;
+use crate::file::length_of;
+use admission::lent::admit;
+use changing::change_refusal;
+use entry::BLOCK;
+use issuing::shapes::issue_range;
+use records::kind::Kind;
+use returned::ACCEPTED;
+use returned::BAD_RANGE;
+use returned::Value;
+
+// "12 Bad range: write of 0 bytes, across blocks or the end of file, beyond length or b": for numbers of any size.
+fn bad_range(b: usize, len: usize, offset: usize, count: usize) -> bool
+    requires { ⌜ b ≤ 64 ⌝ }
+    ensures { λ r. ⌜ r ≡ badRange b len offset count ⌝ }
+{
+    if count == 0 {
+        return true;
+    }
+    if BLOCK < count {
+        return true;
+    }
+    if BLOCK < offset % BLOCK + count {
+        return true;
+    }
+    if len < offset {
+        return true;
+    }
+    if offset < len {
+        if len - offset < count {
+            return true;
+        }
+    }
+    let most = BLOCK * b;
+    if most < offset {
+        return true;
+    }
+    most - offset < count
+}
+
+// What the object, the offset and the data are refused for; 0 where they are not.
+pub fn write_refusal(
+    view: &[u8],
+    n: usize,
+    b: usize,
+    object: usize,
+    offset: usize,
+    data: &[u8],
+) -> usize
+    requires { ⌜ Lent n b (now view) ⌝ }
+    ensures { λ r. ⌜ r ≡ firstNumber (writeRows b (readVolume n b (now (view .entry))) object offset (now («data» .entry))) ⌝ }
+{
+    let refused = file_refusal(view, n, b, object);
+    if refused != ACCEPTED {
+        return refused;
+    }
+    let len = length_of(view, n, b, object);
+    if bad_range(b, len, offset, data.len()) {
+        return BAD_RANGE;
+    }
+    ACCEPTED
+}
+
+// Append where the offset is the file's length, else overwrite.
+fn kind_at(view: &[u8], n: usize, b: usize, object: usize, offset: usize) -> Kind
+    requires { ⌜ Lent n b (now view) ⌝ }
+    requires { ⌜ object < n ⌝ }
+    ensures { λ r. ⌜ r ≡ cond (eqb offset (length (contentsOf (entryAt (readVolume n b (now (view .entry))) object)))) Kind.Append Kind.Overwrite ⌝ }
+{
+    if offset == length_of(view, n, b, object) {
+        return Kind::Append;
+    }
+    Kind::Overwrite
+}
+
+pub fn write(
+    n: usize,
+    b: usize,
+    m: usize,
+    server: &[u8],
+    view: &mut [u8],
+    log: &mut [u8],
+    program: usize,
+    object: usize,
+    offset: usize,
+    data: &[u8],
+) -> Value
+    ensures { λ r. ⌜ given (r .returned) (r .value ∷ []) [] (buffers (now (server .entry)) (now (view .exit)) (now (log .exit))) ≡ step (geometry n b m) (Call.write program object offset (now («data» .entry))) (buffers (now (server .entry)) (now (view .entry)) (now (log .entry))) ⌝ }
+{
+    let wrong = admit(n, b, m, server, view, log);
+    if wrong != ACCEPTED {
+        return Value::refused(wrong);
+    }
+    let own = write_refusal(view, n, b, object, offset, data);
+    let refused = change_refusal(log, n, b, m, program, own);
+    if refused != ACCEPTED {
+        return Value::refused(refused);
+    }
+    let kind = kind_at(view, n, b, object, offset);
+    let number = issue_range(log, view, n, b, m, kind, program, object, offset, data);
+    Value::of(ACCEPTED, number)
+}

@@ -1,0 +1,304 @@
+/* The boundary between C and the library: that arguments and results pass it whole, for every entry. Run it with ./boundary.
+ * It stops with 1 at the first difference. What the calls decide is proved; here only the way in and out is tried. */
+#include <stdio.h>
+#include <stdlib.h>
+#include <string.h>
+#include "writebehind.h"
+
+#define N 4
+#define B 1
+#define M 4
+#define VOLUME ((size_t)WB_VOLUME_BYTES(N, B))
+#define LOG ((size_t)WB_LOG_BYTES(M))
+#define ENTRY (VOLUME / N)
+#define WIDE UINT64_C(4294967296)
+#define GUARD 64
+#define GUARDED(area) {(area) + GUARD, sizeof(area) - 2 * GUARD}
+
+struct bytes {
+    uint8_t *at;
+    uint64_t length;
+};
+
+/* The areas, with bytes around each that have to stay. */
+static uint8_t server_area[VOLUME + 2 * GUARD], view_area[VOLUME + 2 * GUARD], log_area[LOG + 2 * GUARD];
+static uint8_t own_area[WB_RECORD_BYTES + 2 * GUARD];
+static uint8_t *const areas[] = {server_area, view_area, log_area, own_area};
+static const size_t sizes[] = {sizeof server_area, sizeof view_area, sizeof log_area, sizeof own_area};
+static struct bytes s = GUARDED(server_area), v = GUARDED(view_area), l = GUARDED(log_area), own = GUARDED(own_area);
+static const struct bytes null = {NULL, 0};
+static unsigned checks;
+
+static void equal(int line, const char *what, const char *field, uint64_t got, uint64_t wanted)
+{
+    checks++;
+    if (got == wanted)
+        return;
+    printf("boundary.c:%d: %s%s is %llu and should be %llu\n",
+           line, what, field, (unsigned long long)got, (unsigned long long)wanted);
+    exit(1);
+}
+
+static void same(int line, const char *what, const uint8_t *got, const uint8_t *wanted, size_t length)
+{
+    size_t at = 0;
+    while (at < length && got[at] == wanted[at])
+        at++;
+    checks++;
+    if (at == length)
+        return;
+    printf("boundary.c:%d: %s: byte %lu is %d and should be %d\n", line, what, (unsigned long)at, got[at], wanted[at]);
+    exit(1);
+}
+
+static void value(int line, const char *what, struct wb_value got, uint64_t returned, uint64_t wanted)
+{
+    equal(line, what, ".returned", got.returned, returned);
+    equal(line, what, ".value", got.value, wanted);
+}
+
+static void status(int line, const char *what, struct wb_status got,
+                   uint64_t returned, uint64_t kind, uint64_t length, uint64_t usage)
+{
+    equal(line, what, ".returned", got.returned, returned);
+    equal(line, what, ".kind", got.kind, kind);
+    equal(line, what, ".length", got.length, length);
+    equal(line, what, ".usage", got.usage, usage);
+}
+
+#define IS(got, wanted) equal(__LINE__, #got, "", got, wanted)
+#define CODE(call, wanted) equal(__LINE__, #call, ".returned", (call).returned, wanted)
+#define VALUE(call, ...) value(__LINE__, #call, call, __VA_ARGS__)
+#define STATUS(call, ...) status(__LINE__, #call, call, __VA_ARGS__)
+#define SAME(got, wanted, length) same(__LINE__, #got, got, wanted, length)
+#define BYTES(got, ...) SAME(got, ((const uint8_t[]){__VA_ARGS__}), sizeof((const uint8_t[]){__VA_ARGS__}))
+/* All 19 fields of a loss record, 8 bytes each. */
+#define RECORD(call, ...) \
+    do { \
+        const struct wb_loss got_ = call; \
+        const uint64_t wanted_[19] = {__VA_ARGS__}; \
+        IS(sizeof got_, sizeof wanted_); \
+        same(__LINE__, #call, (const uint8_t *)&got_, (const uint8_t *)wanted_, sizeof wanted_); \
+    } while (0)
+
+#define LENT N, B, M, s.at, s.length, v.at, v.length, l.at, l.length
+#define TEXT(text) (const uint8_t *)(text), sizeof(text) - 1
+#define OWN own.at, own.length
+
+/* Every entry that is lent all three buffers, with arguments told by a struct. */
+static const char *const names[] = {"wb_mount", "wb_lookup", "wb_list", "wb_stat", "wb_read", "wb_create", "wb_mkdir",
+    "wb_remove", "wb_rename", "wb_write", "wb_setlen", "wb_forder", "wb_push", "wb_fsync", "wb_cut", "wb_take", "wb_renew"};
+enum { MOUNT, LOOKUP, LIST, STAT, READ, CREATE, MKDIR,
+    REMOVE, RENAME, WRITE, SETLEN, FORDER, PUSH, FSYNC, CUT, TAKE, RENEW, ENTRIES };
+
+struct given {
+    uint64_t n, b, m, program, directory, file, parent, second_parent, fresh, offset, length, sequence;
+};
+/* With the buffers as main() has made them, every entry takes these, but for take, which has nothing to take. */
+static const struct given usual = {N, B, M, 0, 0, 1, 0, 0, 3, 0, 2, 1};
+
+static uint64_t only(struct wb_value r)
+{
+    IS(r.returned != 0 && r.value != 0, 0);
+    return r.returned;
+}
+
+static uint64_t called(int entry, struct given g)
+{
+#define GIVEN g.n, g.b, g.m, s.at, s.length, v.at, v.length, l.at, l.length
+    struct wb_status t;
+    switch (entry) {
+    case MOUNT: return wb_mount(GIVEN).returned;
+    case LOOKUP: return only(wb_lookup(GIVEN, g.program, TEXT("/task")));
+    case LIST: return only(wb_list(GIVEN, g.program, g.directory, OWN));
+    case STAT:
+        t = wb_stat(GIVEN, g.program, g.file);
+        IS(t.returned != 0 && (t.kind != 0 || t.length != 0 || t.usage != 0), 0);
+        return t.returned;
+    case READ: return only(wb_read(GIVEN, g.program, g.file, g.offset, OWN));
+    case CREATE: return only(wb_create(GIVEN, g.program, g.parent, TEXT("new"), g.fresh));
+    case MKDIR: return only(wb_mkdir(GIVEN, g.program, g.parent, TEXT("new"), g.fresh));
+    case REMOVE: return only(wb_remove(GIVEN, g.program, g.parent, TEXT("task")));
+    case RENAME: return only(wb_rename(GIVEN, g.program, g.parent, TEXT("task"), g.second_parent, TEXT("new")));
+    case WRITE: return only(wb_write(GIVEN, g.program, g.file, g.offset, TEXT("xy")));
+    case SETLEN: return only(wb_setlen(GIVEN, g.program, g.file, g.length));
+    case FORDER: return only(wb_forder(GIVEN, g.program, TEXT("\1\0\0\0")));
+    case PUSH: return wb_push(GIVEN, g.sequence).returned;
+    case FSYNC: return only(wb_fsync(GIVEN, g.program, g.file, WIDE));
+    case CUT: return wb_cut(GIVEN).returned;
+    case TAKE: return only(wb_take(GIVEN, g.program, OWN));
+    case RENEW: return wb_renew(GIVEN, g.program).returned;
+    default: return UINT64_MAX;
+    }
+}
+
+/* The call is refused with the number, and no byte is changed. */
+static void refused(int line, int entry, struct given g, uint64_t number)
+{
+    static uint8_t before[sizeof server_area + sizeof view_area + sizeof log_area + sizeof own_area];
+    size_t i, at;
+    for (i = at = 0; i < 4; at += sizes[i++])
+        memcpy(before + at, areas[i], sizes[i]);
+    equal(line, names[entry], "().returned", called(entry, g), number);
+    for (i = at = 0; i < 4; at += sizes[i++])
+        same(line, names[entry], areas[i], before + at, sizes[i]);
+}
+#define REFUSED(entry, field, wanted, number) \
+    do { \
+        struct given g_ = usual; \
+        g_.field = wanted; \
+        refused(__LINE__, entry, g_, number); \
+    } while (0)
+
+/* Refusals at the boundary: null pointers and numbers beyond 32 or 16 bits. */
+static void refusals(void)
+{
+    struct bytes *const lent[] = {&s, &v, &l};
+    const struct bytes kept = own;
+    int entry, i;
+    for (entry = 0; entry < ENTRIES; entry++) {
+        for (i = 0; i < 3; i++) {
+            const struct bytes whole = *lent[i];
+            *lent[i] = null;
+            refused(__LINE__, entry, usual, WB_WRONG_BUFFER);
+            *lent[i] = whole;
+        }
+        REFUSED(entry, n, N + WIDE, WB_WRONG_BUFFER);
+        REFUSED(entry, b, B + WIDE, WB_WRONG_BUFFER);
+        REFUSED(entry, m, M + WIDE, WB_WRONG_BUFFER);
+        if (entry != MOUNT && entry != PUSH && entry != CUT)
+            REFUSED(entry, program, WIDE, WB_BAD_PROGRAM);
+    }
+    CODE(wb_format(N, B, M, NULL, 0), WB_WRONG_BUFFER);
+    CODE(wb_format(N + WIDE, B, M, s.at, s.length), WB_WRONG_BUFFER);
+    REFUSED(LIST, directory, 65536, WB_BAD_NUMBER);
+    REFUSED(STAT, file, 65537, WB_BAD_NUMBER);
+    REFUSED(READ, file, 65537, WB_BAD_NUMBER);
+    REFUSED(WRITE, file, 65537, WB_BAD_NUMBER);
+    REFUSED(SETLEN, file, 65537, WB_BAD_NUMBER);
+    REFUSED(FSYNC, file, 65537, WB_BAD_NUMBER);
+    REFUSED(FSYNC, file, WIDE + 1, WB_BAD_NUMBER);
+    REFUSED(CREATE, fresh, 65536 + 3, WB_BAD_NUMBER);
+    REFUSED(CREATE, parent, 65536, WB_BAD_NUMBER);
+    REFUSED(MKDIR, fresh, 256 + 3, WB_BAD_NUMBER);
+    REFUSED(MKDIR, parent, WIDE, WB_BAD_NUMBER);
+    REFUSED(REMOVE, parent, 65536, WB_BAD_NUMBER);
+    REFUSED(RENAME, parent, 65536, WB_BAD_NUMBER);
+    REFUSED(RENAME, second_parent, 65536, WB_BAD_NUMBER);
+    REFUSED(READ, offset, WIDE, WB_BAD_RANGE);
+    REFUSED(WRITE, offset, WIDE, WB_BAD_RANGE);
+    REFUSED(WRITE, offset, UINT64_MAX, WB_BAD_RANGE);
+    REFUSED(SETLEN, length, WIDE + 2, WB_BAD_RANGE);
+    REFUSED(PUSH, sequence, WIDE + 1, WB_NONE);
+    refused(__LINE__, TAKE, usual, WB_NONE);
+    own = null;
+    refused(__LINE__, LIST, usual, WB_SHORT_BUFFER);
+    refused(__LINE__, TAKE, usual, WB_NONE);
+    own = kept;
+    VALUE(wb_lookup(LENT, 0, NULL, 0), WB_BAD_NAME, 0);
+    VALUE(wb_create(LENT, 0, 0, NULL, 0, 3), WB_BAD_NAME, 0);
+    VALUE(wb_mkdir(LENT, 0, 0, NULL, 0, 3), WB_BAD_NAME, 0);
+    VALUE(wb_remove(LENT, 0, 0, NULL, 0), WB_BAD_NAME, 0);
+    VALUE(wb_rename(LENT, 0, 0, NULL, 0, 0, TEXT("new")), WB_BAD_NAME, 0);
+    VALUE(wb_rename(LENT, 0, 0, TEXT("task"), 0, NULL, 0), WB_BAD_NAME, 0);
+    VALUE(wb_write(LENT, 0, 1, 3, NULL, 0), WB_BAD_RANGE, 0);
+    VALUE(wb_forder(LENT, 0, NULL, 0), WB_BAD_NUMBER, 0);
+    VALUE(wb_read(LENT, 0, 1, 0, NULL, 0), WB_ACCEPTED, 0);
+    RECORD(wb_record(0, NULL, 0), WB_BAD_RECORD);
+}
+
+/* Records, with every field of the answer. */
+static void records(void)
+{
+    static const uint8_t forder[] = {9, 0, 1, 7, 0, 0, 0, 3, 8, 2, 5, 0, 6, 0, 9};
+    static const uint8_t rename[] = {63, 0, 254, 255, 255, 255, 31, 4, 255, 0, 1, 0, 2, 0, 3, 0, 2, 'a', 'b', 1, 'c'};
+    RECORD(wb_record(1, forder, sizeof forder), 0, 14, 7, 3, 8, 256, 0, 0, 0, 0, 0, 0, 0, 0, 0, 0, 0, 10, 4);
+    RECORD(wb_record(0, rename, sizeof rename), 0, 21, WB_LAST_SEQUENCE, 31, 4, 63, 255, 1, 2, 3, 17, 2, 20, 1, 0, 0, 0, 0, 0);
+    CODE(wb_record(WIDE + 1, forder, sizeof forder), WB_BAD_RECORD);
+    CODE(wb_record(UINT64_MAX, forder, sizeof forder), WB_BAD_RECORD);
+}
+
+/* A session from operation 3 on: 1 made file 1, "task", and 2 wrote 3 bytes to it; both wait. */
+static void session(void)
+{
+    uint8_t *const made = s.at + ENTRY; /* entry 1 of the server volume */
+    STATUS(wb_stat(LENT, 0, 1), WB_ACCEPTED, 1, 3, 0);
+    STATUS(wb_stat(LENT, 0, 0), WB_ACCEPTED, 2, 0, 0);
+    VALUE(wb_lookup(LENT, 0, TEXT("/task")), WB_ACCEPTED, 1);
+    memset(own.at, 170, own.length);
+    VALUE(wb_list(LENT, 0, 0, own.at, 8), WB_ACCEPTED, 8);
+    BYTES(own.at, 1, 0, 1, 4, 't', 'a', 's', 'k', 170);
+    VALUE(wb_read(LENT, 0, 1, 1, OWN), WB_ACCEPTED, 2);
+    BYTES(own.at, 'i', '\n', 1, 4, 't');
+    VALUE(wb_mkdir(LENT, 0, 0, TEXT("d"), 2), WB_ACCEPTED, 3);
+    VALUE(wb_list(LENT, 0, 2, NULL, 0), WB_ACCEPTED, 0);
+    CODE(wb_push(LENT, 2), WB_NOT_FIRST);
+    BYTES(made, 0, 0, 0, 0, 0);
+    CODE(wb_push(LENT, 1), WB_ACCEPTED);
+    BYTES(made, 1, 4, 0, 0, 't', 'a', 's', 'k', 0);
+    CODE(wb_push(LENT, 2), WB_ACCEPTED);
+    BYTES(made + 64, 3, 0, 0, 0, 'h', 'i', '\n', 0);
+    VALUE(wb_rename(LENT, 0, 0, TEXT("task"), 2, TEXT("t")), WB_ACCEPTED, 4);
+    VALUE(wb_forder(LENT, 0, TEXT("\1\0\2\0")), WB_ACCEPTED, 5);
+    VALUE(wb_setlen(LENT, 1, 1, 1000), WB_ACCEPTED, 6);
+    STATUS(wb_stat(LENT, 1, 1), WB_ACCEPTED, 1, 1000, 1);
+    VALUE(wb_remove(LENT, 0, 2, TEXT("t")), WB_LOG_FULL, 0);
+    VALUE(wb_fsync(LENT, 1, 2, WIDE), WB_ACCEPTED, 3);
+    BYTES(made, 1, 1, 2, 0, 't', 0, 0, 0, 0);
+    BYTES(l.at, 7, 0, 0, 0, 0, 0, 0, 0, 1, 0, 0, 0, 2, 0, 0, 0, 65, 0, 6, 0, 0, 0, 1, 7, 1, 0, 232, 3, 0, 0, 0);
+    CODE(wb_cut(LENT), WB_ACCEPTED);
+    BYTES(l.at, 7, 0, 0, 0, 2, 0, 0, 0, 2, 0, 0, 0, 0, 0, 0, 0, 65, 0, 6, 0, 0, 0, 1, 7, 1, 0, 232, 3, 0, 0, 0);
+    SAME(v.at, s.at, VOLUME);
+    STATUS(wb_stat(LENT, 1, 1), WB_MARKED, 0, 0, 0);
+    CODE(wb_renew(LENT, 1), WB_LOSSES_LEFT);
+    VALUE(wb_take(LENT, 1, NULL, 0), WB_SHORT_BUFFER, 0);
+    VALUE(wb_take(LENT, 1, own.at, own.length - 1), WB_SHORT_BUFFER, 0);
+    VALUE(wb_take(LENT, 1, OWN), WB_ACCEPTED, 14);
+    BYTES(own.at, 65, 0, 6, 0, 0, 0, 1, 7, 1, 0, 232, 3, 0, 0, 170);
+    RECORD(wb_record(0, own.at, 14), 0, 14, 6, 1, 7, 65, 1, 0, 0, 0, 0, 0, 0, 0, 1000, 0, 0, 0, 0);
+    VALUE(wb_take(LENT, 1, OWN), WB_NONE, 0);
+    CODE(wb_renew(LENT, 1), WB_ACCEPTED);
+    STATUS(wb_stat(LENT, 1, 1), WB_ACCEPTED, 1, 3, 0);
+    VALUE(wb_create(LENT, 0, 2, TEXT("u"), 3), WB_ACCEPTED, 7);
+    VALUE(wb_write(LENT, 0, 3, 0, TEXT("xyz")), WB_ACCEPTED, 8);
+    VALUE(wb_remove(LENT, 0, 2, TEXT("t")), WB_ACCEPTED, 9);
+    VALUE(wb_fsync(LENT, 1, 3, 1), WB_LINK_LOST, 1);
+    BYTES(l.at, 10, 0, 0, 0, 3, 0, 0, 0, 2);
+    VALUE(wb_take(LENT, 0, OWN), WB_ACCEPTED, 19);
+    RECORD(wb_record(0, OWN), 0, 19, 8, 0, 6, 193, 3, 0, 0, 0, 0, 0, 0, 0, 0, 16, 3, 0, 0);
+    VALUE(wb_take(LENT, 0, OWN), WB_ACCEPTED, 14);
+    RECORD(wb_record(0, OWN), 0, 14, 9, 0, 3, 19, 1, 2, 0, 0, 13, 1, 0, 0, 0, 0, 0, 0, 0);
+    VALUE(wb_take(LENT, 0, OWN), WB_NONE, 0);
+    CODE(wb_renew(LENT, 0), WB_ACCEPTED);
+    CODE(wb_renew(LENT, 1), WB_ACCEPTED);
+    SAME(v.at, s.at, VOLUME);
+    BYTES(l.at, 10, 0, 0, 0, 0, 0, 0, 0, 0);
+}
+
+int main(void)
+{
+    uint8_t guard[GUARD], root[VOLUME] = {2};
+    int i;
+    memset(guard, 85, sizeof guard);
+    for (i = 0; i < 4; i++)
+        memset(areas[i], 85, sizes[i]);
+    CODE(wb_format(N, B, M, s.at, s.length), WB_ACCEPTED);
+    SAME(s.at, root, VOLUME);
+    CODE(wb_mount(LENT), WB_ACCEPTED);
+    SAME(v.at, root, VOLUME);
+    BYTES(l.at, 1, 0, 0, 0, 0, 0, 0, 0, 0);
+    VALUE(wb_create(LENT, 0, 0, TEXT("task"), 1), WB_ACCEPTED, 1);
+    VALUE(wb_write(LENT, 0, 1, 0, TEXT("hi\n")), WB_ACCEPTED, 2);
+    SAME(s.at, root, VOLUME);
+    refusals();
+    records();
+    session();
+    for (i = 0; i < 4; i++) {
+        SAME(areas[i], guard, GUARD);
+        SAME(areas[i] + sizes[i] - GUARD, guard, GUARD);
+    }
+    IS(strcmp(wb_text(WB_BAD_RECORD), "bad record") == 0, 1);
+    IS(strcmp(wb_text(WIDE), wb_text(21)) == 0, 1);
+    printf("%u checks passed\n", checks);
+    return 0;
+}
