@@ -1,20 +1,16 @@
 -- Write, set length and forder as changes: their tables, and what each issues where its table lets it pass. Assumes nothing.
 use Prim.Native.Nat.{ℕ, _%_, _<_}
-use native.Mathlib.Omega.{arith}
-use mathlib.Core.Path.{_≡_, refl, sym, ap, _∙_}
-use mathlib.Core.List.{List, [], _∷_, _++_}
+use mathlib.Core.Path.{_≡_, refl, sym, _∙_}
+use mathlib.Core.List.{List, [], _∷_}
 use mathlib.Core.Bool.{Bool, true, false, cond}
 use lib.ListN.{length}
-use lib.Dec.{eqb}
-use borrow.Author.Tests.{eqb-true, eqb-false}
-use Rattle.records.specs.declared.kind.Kind.{Kind}
 use Rattle.records.specs.declared.kind.Kind.the-variants.{Overwrite, Append}
 use Rattle.records.specs.Kind.{mapOfKind}
 use Rattle.records.specs.Operation.{Operation, recordOf}
 use Rattle.records.specs.Fields.{objectsOf}
 use Rattle.writer.specs.Code.Writer.{rangeRecord, forderRecord}
 use Rattle.entry.specs.Entry.{contentsOf}
-use Rattle.search.specs.Volume.{Volume, entryAt}
+use Rattle.search.specs.Volume.{entryAt}
 use Rattle.search.specs.Stored.{readVolume}
 use Rattle.search.specs.LentLaws.{length-read}
 use Rattle.search.specs.Code.Lent.{Formed}
@@ -23,28 +19,18 @@ use Rattle.log.specs.Stored.{readLog}
 use Rattle.issuing.specs.Code.Issued.{Waits, Issued}
 use Rattle.session.specs.Call.{Call, geometry}
 use Rattle.session.specs.Call
-use Rattle.session.specs.Refusal.{Row, row}
-use Rattle.session.specs.Model.{programRows}
+use Rattle.session.specs.Refusal.{row}
 use Rattle.session.specs.Issue.{writes}
-use Rattle.session.specs.Edit.{roomRows, badRange, fileRows, writeRows, writeOf, lengthRows, setLengthOf, forderRows, forderOf}
+use Rattle.session.specs.Edit.{badRange, writeRows, writeOf, lengthRows, setLengthOf, forderRows, forderOf}
 use Rattle.session.specs.Step.{answerOf}
-use Rattle.session.specs.Code.Table.{firstNumber, rising}
-use Rattle.session.specs.TableLaws.{first-left, first-right}
+use Rattle.session.specs.Code.Table.{firstNumber}
 use Rattle.session.specs.IssuingLaws.{Issuing}
 use Rattle.session.specs.EditLaws.{write-accepted, length-accepted, forder-accepted}
 use Rattle.admission.specs.Code.Admitted.{modelIn, Admitted}
 use Rattle.changing.specs.Code.Change.{changeNumber, Change}
-use Rattle.changing.specs.ChangeLaws.{change-passes, change-accepted}
+use Rattle.changing.specs.ChangeLaws.{change-accepted, change-own}
 use Rattle.writing.specs.FileLaws.{file-below}
 use Rattle.writing.specs.ListLaws.{list-even}
-
--- Where two tables one behind the other let pass, each does.
-both-pass : (k : ℕ) (a b : List Row) → rising k a ≡ true → 0 ≡ firstNumber (a ++ b) → (0 ≡ firstNumber a) × (0 ≡ firstNumber b)
-both-pass k a b h e = go (eqb (firstNumber a) 0) refl
-  where
-    go : (t : Bool) → eqb (firstNumber a) 0 ≡ t → (0 ≡ firstNumber a) × (0 ≡ firstNumber b)
-    go true z = let y = eqb-true (firstNumber a) 0 z in (sym y, e ∙ first-right k a b h y)
-    go false z = let n = eqb-false (firstNumber a) 0 z in absurd (n (sym (e ∙ first-left (firstNumber a) a b refl n)))
 
 -- The record of a write by its kind is that of the operation that a write issues.
 pub range-kind : (t : Bool) → mapOfKind (cond t Append Overwrite) ≡ mapOfKind Overwrite
@@ -80,13 +66,9 @@ module _ {n b m : ℕ} {s v l : List ℕ} (h : Admitted n b m s v l) (p : ℕ) w
 
       -- The object of an accepted write is below n.
       pub write-below : o < n
-      unfolding write-change
       write-below =
-          let x = modelIn n b m s v l in
-          let rest = writeRows b (readVolume n b v) o f d ++ roomRows (geometry n b m) (Call.write p o f d) x in
-          let y = both-pass 0 (programRows (readLog m l) p) rest refl (change-passes write-change k e z) .1 in
           let range = row 12 (badRange b (length (contentsOf (entryAt (readVolume n b v) o))) f (length d)) in
-          rw (length-read n b v) at (file-below (readVolume n b v) o (both-pass 4 (fileRows (readVolume n b v) o []) (range ∷ roomRows (geometry n b m) (Call.write p o f d) x) refl y .0))
+          rw (length-read n b v) at (file-below (readVolume n b v) o (range ∷ []) (sym (change-own write-change k e z) ∙ number))
 
   module _ (o f : ℕ) (own : ℕ) (number : own ≡ firstNumber (lengthRows b (readVolume n b v) o f)) where
     pub length-change : Change n b m p s v l (Call.setLength p o f) own
@@ -132,12 +114,7 @@ module _ {n b m : ℕ} {s v l : List ℕ} (h : Admitted n b m s v l) (p : ℕ) w
 
       -- The list of an accepted forder is of even length.
       pub forder-even : length d % 2 ≡ 0
-      unfolding forder-change
-      forder-even =
-          let x = modelIn n b m s v l in
-          let room = roomRows (geometry n b m) (Call.forder p d) x in
-          let y = both-pass 0 (programRows (readLog m l) p) (forderRows (readVolume n b v) d ++ room) refl (change-passes forder-change k e z) .1 in
-          list-even (readVolume n b v) d (both-pass 4 (forderRows (readVolume n b v) d) room refl y .0)
+      forder-even = list-even (readVolume n b v) d (sym (change-own forder-change k e z) ∙ number)
 
 -- The log's part of an issued forder is all of it: the view tells of the same volume.
 pub forder-issued : {n b m : ℕ} {v : List ℕ} → Formed n b v → (q p x : ℕ) (d log l : List ℕ)

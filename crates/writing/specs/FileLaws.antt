@@ -2,7 +2,7 @@
 use Prim.Native.Nat.{ℕ, _+_, _*_, _-_, _%_, _≤_, _<_}
 use native.Mathlib.Omega.{arith}
 use mathlib.Core.Path.{_≡_, refl, sym, ap, _∙_}
-use mathlib.Core.List.{List, [], _∷_, _++_}
+use mathlib.Core.List.{List, [], _∷_}
 use mathlib.Core.Bool.{Bool, true, false, not, _&&_, _||_, cond}
 use lib.ListN.{length}
 use lib.Dec.{ltb, eqb}
@@ -15,7 +15,7 @@ use Rattle.questions.specs.declared.object.Object.the-variants.{File, Directory
 use Rattle.questions.specs.Answer.{objectOf, objectAnswer}
 use Rattle.session.specs.Refusal.{Row, row}
 use Rattle.session.specs.Edit.{badRange, fileRows}
-use Rattle.session.specs.Code.Table.{firstNumber, rising}
+use Rattle.session.specs.Code.Table.{firstNumber}
 use Rattle.session.specs.TableLaws.{first-left, first-right}
 
 pub or-right : (a b : Bool) → b ≡ true → a || b ≡ true
@@ -46,12 +46,12 @@ module _ (v : Volume) (o : ℕ) where
       go true (directory a p) = refl
 
   -- An object that is not refused is below n.
-  pub file-below : 0 ≡ firstNumber (fileRows v o []) → o < length v
+  pub file-below : (l : List Row) → 0 ≡ firstNumber (fileRows v o l) → o < length v
   unfolding firstNumber
-  file-below = go (ltb o (length v)) refl
+  file-below l = go (ltb o (length v)) refl
     where
       go : (t : Bool) → ltb o (length v) ≡ t
-          → 0 ≡ firstNumber (row Returned.badNumber (not t) ∷ row Returned.noObject (not (isUsed (entryAt v o))) ∷ row Returned.wrongKind (not (isFile (entryAt v o))) ∷ [])
+          → 0 ≡ firstNumber (row Returned.badNumber (not t) ∷ row Returned.noObject (not (isUsed (entryAt v o))) ∷ row Returned.wrongKind (not (isFile (entryAt v o))) ∷ l)
           → o < length v
       go true e h = ltb-true o (length v) e
       go false e h = absurd (omega arith)

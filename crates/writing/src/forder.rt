@@ -1,4 +1,4 @@
-// "Forder takes a list of 1..8 different objects": it changes no volume, and orders what waits.
+// Forder, which is issued like a change: "Forder's list is lent as 2 bytes an object".
 ghost use mathlib.Core.Path.{_≡_};
 ghost use mathlib.Core.List.{[], _∷_};
 ghost use Rattle.records.specs.Fields.{objectsOf};
@@ -69,7 +69,7 @@ pub fn forder_refusal(view: &[u8], n: usize, b: usize, list: &[u8]) -> usize
     BAD_NUMBER
 }
 
-// "forder's change to the view is none": the view is only read.
+// The view is only read: "forder's change to the view is none".
 pub fn forder(
     n: usize,
     b: usize,

@@ -1,4 +1,4 @@
-// "Set length adds zeros or cuts."
+// "Set length zeroes what it cuts off or adds."
 ghost use mathlib.Core.Path.{_≡_};
 ghost use mathlib.Core.List.{[], _∷_};
 ghost use Rattle.search.specs.Stored.{readVolume};

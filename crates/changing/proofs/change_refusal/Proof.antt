@@ -13,13 +13,15 @@ returns : tie.Need-returns
 returns c =
     let p = c .before in
     let a = p .before .before .args in
-    by-program (geometry (a .n) (a .b) (a .m)) (readLog (a .m) (a .log .now)) (a .program) (a .own) (p .program-refusal .result) (p .program-refusal .ensures) (c .if1 .taken)
+    by-program (geometry (a .n) (a .b) (a .m)) (readLog (a .m) (a .log .now)) (a .program) (a .own) (p .program-refusal .result) (p .program-refusal .ensures)
+    (c .if1 .taken)
 
 returns-2 : tie.Need-returns-2
 returns-2 c =
     let p = c .before .before in
     let a = p .before .before .args in
-    by-own (geometry (a .n) (a .b) (a .m)) (readLog (a .m) (a .log .now)) (a .program) (a .own) (p .program-refusal .result) (p .program-refusal .ensures) (c .before .if1 .left) (c .if2 .taken)
+    by-own (geometry (a .n) (a .b) (a .m)) (readLog (a .m) (a .log .now)) (a .program) (a .own) (p .program-refusal .result) (p .program-refusal .ensures)
+    (c .before .if1 .left) (c .if2 .taken)
 
 room-refusal-requires : tie.Need-room-refusal-requires
 room-refusal-requires c κs = search needs
@@ -28,7 +30,8 @@ returns-3 : tie.Need-returns-3
 returns-3 c =
     let p = c .before .before .before in
     let a = p .before .before .args in
-    by-room (geometry (a .n) (a .b) (a .m)) (readLog (a .m) (a .log .now)) (a .program) (a .own) (p .program-refusal .result) (p .program-refusal .ensures) (c .before .before .if1 .left) (c .before .if2 .left)
+    by-room (geometry (a .n) (a .b) (a .m)) (readLog (a .m) (a .log .now)) (a .program) (a .own) (p .program-refusal .result) (p .program-refusal .ensures)
+    (c .before .before .if1 .left) (c .before .if2 .left)
     (c .room-refusal .result) (c .room-refusal .ensures)
 
 pub change-refusal-spec : {M : Type 1} → statement M

@@ -28,7 +28,9 @@ returns : tie.Need-returns
 returns c =
     let y = c .before .before in
     let a = y .before .before .before .before .before .before .before .args in
-    lent-refuses (geometry (a .n) (a .b) (a .m)) (makeCall (a .directory) (a .program) (a .parent) (a .name .now) (a .object)) (buffers (a .server .now) (a .view .now) (a .log .now)) (make-plain (a .directory) (a .program) (a .parent) (a .name .now) (a .object)) (y .admit .result) (y .admit .ensures) (c .before .if1 .taken) (c .refused .result) (c .refused .ensures)
+    lent-refuses (geometry (a .n) (a .b) (a .m)) (makeCall (a .directory) (a .program) (a .parent) (a .name .now) (a .object))
+    (buffers (a .server .now) (a .view .now) (a .log .now)) (make-plain (a .directory) (a .program) (a .parent) (a .name .now) (a .object)) (y .admit .result)
+    (y .admit .ensures) (c .before .if1 .taken) (c .refused .result) (c .refused .ensures)
 
 make-refusal-requires : tie.Need-make-refusal-requires
 make-refusal-requires c κs =
@@ -58,7 +60,8 @@ returns-2 c =
     let y = x .before .before .before in
     let a = y .before .before .before .before .before .before .before .args in
     let h = admitted (a .n) (a .b) (a .m) (a .server .now) (a .view .now) (a .log .now) (sym (y .admit .ensures) ∙ x .before .before .if1 .left) in
-    let ch = make-change (a .n) (a .b) (a .m) (a .program) (a .server .now) (a .view .now) (a .log .now) h (a .directory) (a .parent) (a .name .now) (a .object) (x .make-refusal .result) (x .make-refusal .ensures) in
+    let ch = make-change (a .n) (a .b) (a .m) (a .program) (a .server .now) (a .view .now) (a .log .now) h (a .directory) (a .parent) (a .name .now) (a .object)
+    (x .make-refusal .result) (x .make-refusal .ensures) in
     change-refuses ch (k .change-refusal .result) (k .change-refusal .ensures) (c .before .if2 .taken) (c .refused2 .result) (c .refused2 .ensures)
 
 kind-of-requires : tie.Need-kind-of-requires
@@ -71,9 +74,12 @@ issue-entry-requires c κs =
     let y = x .before .before .before in
     let a = y .before .before .before .before .before .before .before .args in
     let h = admitted (a .n) (a .b) (a .m) (a .server .now) (a .view .now) (a .log .now) (sym (y .admit .ensures) ∙ x .before .before .if1 .left) in
-    let ch = make-change (a .n) (a .b) (a .m) (a .program) (a .server .now) (a .view .now) (a .log .now) h (a .directory) (a .parent) (a .name .now) (a .object) (x .make-refusal .result) (x .make-refusal .ensures) in
-    let i = make-issuing (a .n) (a .b) (a .m) (a .program) (a .server .now) (a .view .now) (a .log .now) h (a .directory) (a .parent) (a .name .now) (a .object) (change-accepted ch (k .change-refusal .result) (k .change-refusal .ensures) (c .before .before .before .if2 .left)) in
-    let r = make-record (a .directory) (c .before .before .kind-of .result) (c .before .before .kind-of .ensures) (readLog (a .m) (a .log .now) .next) (a .program) (a .object) (a .parent) (a .name .now) in
+    let ch = make-change (a .n) (a .b) (a .m) (a .program) (a .server .now) (a .view .now) (a .log .now) h (a .directory) (a .parent) (a .name .now) (a .object)
+    (x .make-refusal .result) (x .make-refusal .ensures) in
+    let i = make-issuing (a .n) (a .b) (a .m) (a .program) (a .server .now) (a .view .now) (a .log .now) h (a .directory) (a .parent) (a .name .now) (a .object)
+    (change-accepted ch (k .change-refusal .result) (k .change-refusal .ensures) (c .before .before .before .if2 .left)) in
+    let r = make-record (a .directory) (c .before .before .kind-of .result) (c .before .before .kind-of .ensures) (readLog (a .m) (a .log .now) .next) (a .program)
+    (a .object) (a .parent) (a .name .now) in
     (h .log, (h .view, (issuing-room h i, (r .0, issuing-able h i _ (r .1)))))
 
 of-requires : tie.Need-of-requires
@@ -93,9 +99,13 @@ returns-3 c =
     let y = x .before .before .before in
     let a = y .before .before .before .before .before .before .before .args in
     let h = admitted (a .n) (a .b) (a .m) (a .server .now) (a .view .now) (a .log .now) (sym (y .admit .ensures) ∙ x .before .before .if1 .left) in
-    let ch = make-change (a .n) (a .b) (a .m) (a .program) (a .server .now) (a .view .now) (a .log .now) h (a .directory) (a .parent) (a .name .now) (a .object) (x .make-refusal .result) (x .make-refusal .ensures) in
-    let r = make-record (a .directory) (u .before .before .before .kind-of .result) (u .before .before .before .kind-of .ensures) (readLog (a .m) (a .log .now) .next) (a .program) (a .object) (a .parent) (a .name .now) in
-    issued-outcome ch (k .change-refusal .result) (k .change-refusal .ensures) (c .before .before .before .before .before .before .before .before .before .if2 .left) (makeOperation (a .directory) (a .object) (a .parent) (a .name .now)) (make-issues (a .directory) (readVolume (a .n) (a .b) (a .view .now)) (a .program) (a .parent) (a .name .now) (a .object)) _ (r .1) (u .issue-entry .result)
+    let ch = make-change (a .n) (a .b) (a .m) (a .program) (a .server .now) (a .view .now) (a .log .now) h (a .directory) (a .parent) (a .name .now) (a .object)
+    (x .make-refusal .result) (x .make-refusal .ensures) in
+    let r = make-record (a .directory) (u .before .before .before .kind-of .result) (u .before .before .before .kind-of .ensures) (readLog (a .m) (a .log .now) .next)
+    (a .program) (a .object) (a .parent) (a .name .now) in
+    issued-outcome ch (k .change-refusal .result) (k .change-refusal .ensures) (c .before .before .before .before .before .before .before .before .before .if2 .left)
+    (makeOperation (a .directory) (a .object) (a .parent) (a .name .now))
+    (make-issues (a .directory) (readVolume (a .n) (a .b) (a .view .now)) (a .program) (a .parent) (a .name .now) (a .object)) _ (r .1) (u .issue-entry .result)
     (u .issue-entry .last .0) (u .issue-entry .last .1 .0) (u .issue-entry .ensures) (c .of .result) (c .of .ensures)
 
 pub make-spec : {M : Type 1} → statement M

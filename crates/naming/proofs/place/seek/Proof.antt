@@ -17,7 +17,8 @@ returns c =
     let k = c .before in
     let a = k .before .before .before .args in
     record {
-      number = found-refused (readVolume (a .n) (a .b) (a .view .now)) (a .parent) (a .name .now) (k .directory-refusal .result) (k .directory-refusal .ensures) (c .if1 .taken);
+      number = found-refused (readVolume (a .n) (a .b) (a .view .now)) (a .parent) (a .name .now) (k .directory-refusal .result) (k .directory-refusal .ensures)
+          (c .if1 .taken);
       found = λ z. absurd (c .if1 .taken z);
     }
 

@@ -21,7 +21,8 @@ returns-2 : tie.Need-returns-2
 returns-2 c =
     let l = c .before .before in
     let a = l .before .before .args in
-    move-free (readVolume (a .n) (a .b) (a .view .now)) (a .parent) (a .second) (a .object) (a .displaced) (sym (l .leaves-parent .ensures) ∙ c .before .if1 .left) (c .if2 .taken)
+    move-free (readVolume (a .n) (a .b) (a .view .now)) (a .parent) (a .second) (a .object) (a .displaced) (sym (l .leaves-parent .ensures) ∙ c .before .if1 .left)
+    (c .if2 .taken)
 
 entry-requires : tie.Need-entry-requires
 entry-requires c κs = search needs
@@ -37,24 +38,41 @@ kind-requires-2 c κs = search needs
 
 returns-3 : tie.Need-returns-3
 returns-3 c =
-    let l = c .before .before .before .before .before .before .before in
+    let k = c .before in
+    let o = k .before .before in
+    let l = o .before .before .before .before in
     let a = l .before .before .args in
-    move-mixed (readVolume (a .n) (a .b) (a .view .now)) (a .parent) (a .second) (a .object) (a .displaced) (sym (l .leaves-parent .ensures) ∙ c .before .before .before .before .before .before .if1 .left) (c .before .before .before .before .before .if2 .left) (λ q. c .if3 .taken ((of-entry kindNumber (c .before .before .before .before .entry .ensures) (c .before .before .before .kind .ensures)) ∙ q ∙ sym (of-entry kindNumber (c .before .before .entry2 .ensures) (c .before .kind2 .ensures))))
+    let one = of-entry kindNumber (o .before .entry .ensures) (o .kind .ensures) in
+    let other = of-entry kindNumber (k .before .entry2 .ensures) (k .kind2 .ensures) in
+    move-mixed (readVolume (a .n) (a .b) (a .view .now)) (a .parent) (a .second) (a .object) (a .displaced)
+    (sym (l .leaves-parent .ensures) ∙ o .before .before .before .if1 .left) (o .before .before .if2 .left) (λ q. c .if3 .taken (one ∙ q ∙ sym other))
 
 has-children-requires : tie.Need-has-children-requires
 has-children-requires c κs = search needs
 
 returns-4 : tie.Need-returns-4
 returns-4 c =
-    let l = c .before .before .before .before .before .before .before .before .before in
+    let k = c .before .before .before in
+    let o = k .before .before in
+    let l = o .before .before .before .before in
     let a = l .before .before .args in
-    move-full (readVolume (a .n) (a .b) (a .view .now)) (a .parent) (a .second) (a .object) (a .displaced) (sym (l .leaves-parent .ensures) ∙ c .before .before .before .before .before .before .before .before .if1 .left) (c .before .before .before .before .before .before .before .if2 .left) (sym (of-entry kindNumber (c .before .before .before .before .before .before .entry .ensures) (c .before .before .before .before .before .kind .ensures)) ∙ c .before .before .if3 .left ∙ (of-entry kindNumber (c .before .before .before .before .entry2 .ensures) (c .before .before .before .kind2 .ensures))) (sym (c .before .has-children .ensures) ∙ c .if4 .taken)
+    let one = of-entry kindNumber (o .before .entry .ensures) (o .kind .ensures) in
+    let other = of-entry kindNumber (k .before .entry2 .ensures) (k .kind2 .ensures) in
+    move-full (readVolume (a .n) (a .b) (a .view .now)) (a .parent) (a .second) (a .object) (a .displaced)
+    (sym (l .leaves-parent .ensures) ∙ o .before .before .before .if1 .left) (o .before .before .if2 .left) (sym one ∙ c .before .before .if3 .left ∙ other)
+    (sym (c .before .has-children .ensures) ∙ c .if4 .taken)
 
 returns-5 : tie.Need-returns-5
 returns-5 c =
-    let l = c .before .before .before .before .before .before .before .before .before in
+    let k = c .before .before .before in
+    let o = k .before .before in
+    let l = o .before .before .before .before in
     let a = l .before .before .args in
-    move-fine (readVolume (a .n) (a .b) (a .view .now)) (a .parent) (a .second) (a .object) (a .displaced) (sym (l .leaves-parent .ensures) ∙ c .before .before .before .before .before .before .before .before .if1 .left) (c .before .before .before .before .before .before .before .if2 .left) (sym (of-entry kindNumber (c .before .before .before .before .before .before .entry .ensures) (c .before .before .before .before .before .kind .ensures)) ∙ c .before .before .if3 .left ∙ (of-entry kindNumber (c .before .before .before .before .entry2 .ensures) (c .before .before .before .kind2 .ensures))) (sym (c .before .has-children .ensures) ∙ c .if4 .left)
+    let one = of-entry kindNumber (o .before .entry .ensures) (o .kind .ensures) in
+    let other = of-entry kindNumber (k .before .entry2 .ensures) (k .kind2 .ensures) in
+    move-fine (readVolume (a .n) (a .b) (a .view .now)) (a .parent) (a .second) (a .object) (a .displaced)
+    (sym (l .leaves-parent .ensures) ∙ o .before .before .before .if1 .left) (o .before .before .if2 .left) (sym one ∙ c .before .before .if3 .left ∙ other)
+    (sym (c .before .has-children .ensures) ∙ c .if4 .left)
 
 pub move-refusal-spec : {M : Type 1} → statement M
 move-refusal-spec =

@@ -5,9 +5,8 @@ use Rattle.log.specs.Stored.{readLog}
 use Rattle.writer.specs.Code.Writer.{displacedBy}
 use Rattle.session.specs.Call.{Call, geometry, buffers}
 use Rattle.admission.specs.AdmittedLaws.{admitted}
-use Rattle.changing.specs.ChangeLaws.{lent-refuses, change-refuses, change-accepted}
+use Rattle.changing.specs.ChangeLaws.{lent-refuses, change-refuses, change-accepted, change-own}
 use Rattle.changing.specs.IssuedLaws.{issuing-room, issuing-able, issued-outcome}
-use Rattle.changing.specs.ChangeLaws.{change-own}
 use Rattle.naming.specs.NamingLaws.{rename-change, rename-issues, rename-issuing, rename-record}
 use borrow.Author.Needs.{needs}
 use Rattle.naming.proofs.rename.rename.Statement.{statement}
@@ -29,7 +28,9 @@ returns : tie.Need-returns
 returns c =
     let y = c .before .before in
     let a = y .before .before .before .before .before .before .before .before .args in
-    lent-refuses (geometry (a .n) (a .b) (a .m)) (Call.rename (a .program) (a .parent) (a .name .now) (a .second-parent) (a .second-name .now)) (buffers (a .server .now) (a .view .now) (a .log .now)) (λ k. refl) (y .admit .result) (y .admit .ensures) (c .before .if1 .taken) (c .refused .result) (c .refused .ensures)
+    lent-refuses (geometry (a .n) (a .b) (a .m)) (Call.rename (a .program) (a .parent) (a .name .now) (a .second-parent) (a .second-name .now))
+    (buffers (a .server .now) (a .view .now) (a .log .now)) (λ k. refl) (y .admit .result) (y .admit .ensures) (c .before .if1 .taken) (c .refused .result)
+    (c .refused .ensures)
 
 rename-refusal-requires : tie.Need-rename-refusal-requires
 rename-refusal-requires c κs =
@@ -59,7 +60,8 @@ returns-2 c =
     let y = x .before .before .before in
     let a = y .before .before .before .before .before .before .before .before .args in
     let h = admitted (a .n) (a .b) (a .m) (a .server .now) (a .view .now) (a .log .now) (sym (y .admit .ensures) ∙ x .before .before .if1 .left) in
-    let ch = rename-change (a .n) (a .b) (a .m) (a .program) (a .server .now) (a .view .now) (a .log .now) h (a .parent) (a .name .now) (a .second-parent) (a .second-name .now) (x .rename-refusal .result .refused) (x .rename-refusal .result .object) (x .rename-refusal .result .displaced) (x .rename-refusal .ensures) in
+    let ch = rename-change (a .n) (a .b) (a .m) (a .program) (a .server .now) (a .view .now) (a .log .now) h (a .parent) (a .name .now) (a .second-parent)
+    (a .second-name .now) (x .rename-refusal .result .refused) (x .rename-refusal .result .object) (x .rename-refusal .result .displaced) (x .rename-refusal .ensures) in
     change-refuses ch (k .change-refusal .result) (k .change-refusal .ensures) (c .before .if2 .taken) (c .refused2 .result) (c .refused2 .ensures)
 
 issue-rename-requires : tie.Need-issue-rename-requires
@@ -69,12 +71,16 @@ issue-rename-requires c κs =
     let y = x .before .before .before in
     let a = y .before .before .before .before .before .before .before .before .args in
     let h = admitted (a .n) (a .b) (a .m) (a .server .now) (a .view .now) (a .log .now) (sym (y .admit .ensures) ∙ x .before .before .if1 .left) in
-    let ch = rename-change (a .n) (a .b) (a .m) (a .program) (a .server .now) (a .view .now) (a .log .now) h (a .parent) (a .name .now) (a .second-parent) (a .second-name .now) (x .rename-refusal .result .refused) (x .rename-refusal .result .object) (x .rename-refusal .result .displaced) (x .rename-refusal .ensures) in
+    let ch = rename-change (a .n) (a .b) (a .m) (a .program) (a .server .now) (a .view .now) (a .log .now) h (a .parent) (a .name .now) (a .second-parent)
+    (a .second-name .now) (x .rename-refusal .result .refused) (x .rename-refusal .result .object) (x .rename-refusal .result .displaced) (x .rename-refusal .ensures) in
     let own = change-own ch (k .change-refusal .result) (k .change-refusal .ensures) (c .before .before .if2 .left) in
     let is = x .rename-refusal .ensures .found own in
     let gone = x .rename-refusal .ensures .displaces own in
-    let i = rename-issuing (a .n) (a .b) (a .m) (a .program) (a .server .now) (a .view .now) (a .log .now) h (a .parent) (a .name .now) (a .second-parent) (a .second-name .now) (x .rename-refusal .result .object) (x .rename-refusal .result .displaced) is gone (change-accepted ch (k .change-refusal .result) (k .change-refusal .ensures) (c .before .before .if2 .left)) in
-    let r = rename-record (readLog (a .m) (a .log .now) .next) (a .program) (x .rename-refusal .result .object) (a .parent) (a .second-parent) (x .rename-refusal .result .displaced) (a .name .now) (a .second-name .now) in
+    let i = rename-issuing (a .n) (a .b) (a .m) (a .program) (a .server .now) (a .view .now) (a .log .now) h (a .parent) (a .name .now) (a .second-parent)
+    (a .second-name .now) (x .rename-refusal .result .object) (x .rename-refusal .result .displaced) is gone
+    (change-accepted ch (k .change-refusal .result) (k .change-refusal .ensures) (c .before .before .if2 .left)) in
+    let r = rename-record (readLog (a .m) (a .log .now) .next) (a .program) (x .rename-refusal .result .object) (a .parent) (a .second-parent)
+    (x .rename-refusal .result .displaced) (a .name .now) (a .second-name .now) in
     (h .log, (h .view, (issuing-room h i, issuing-able h i _ r)))
 
 of-requires : tie.Need-of-requires
@@ -94,12 +100,17 @@ returns-3 c =
     let y = x .before .before .before in
     let a = y .before .before .before .before .before .before .before .before .args in
     let h = admitted (a .n) (a .b) (a .m) (a .server .now) (a .view .now) (a .log .now) (sym (y .admit .ensures) ∙ x .before .before .if1 .left) in
-    let ch = rename-change (a .n) (a .b) (a .m) (a .program) (a .server .now) (a .view .now) (a .log .now) h (a .parent) (a .name .now) (a .second-parent) (a .second-name .now) (x .rename-refusal .result .refused) (x .rename-refusal .result .object) (x .rename-refusal .result .displaced) (x .rename-refusal .ensures) in
+    let ch = rename-change (a .n) (a .b) (a .m) (a .program) (a .server .now) (a .view .now) (a .log .now) h (a .parent) (a .name .now) (a .second-parent)
+    (a .second-name .now) (x .rename-refusal .result .refused) (x .rename-refusal .result .object) (x .rename-refusal .result .displaced) (x .rename-refusal .ensures) in
     let own = change-own ch (k .change-refusal .result) (k .change-refusal .ensures) (c .before .before .before .before .before .before .before .before .if2 .left) in
     let is = x .rename-refusal .ensures .found own in
     let gone = x .rename-refusal .ensures .displaces own in
-    let r = rename-record (readLog (a .m) (a .log .now) .next) (a .program) (x .rename-refusal .result .object) (a .parent) (a .second-parent) (x .rename-refusal .result .displaced) (a .name .now) (a .second-name .now) in
-    issued-outcome ch (k .change-refusal .result) (k .change-refusal .ensures) (c .before .before .before .before .before .before .before .before .if2 .left) (Operation.rename (x .rename-refusal .result .object) (a .parent) (a .second-parent) (displacedBy (x .rename-refusal .result .displaced)) (a .name .now) (a .second-name .now)) (rename-issues (a .n) (a .b) (a .m) (a .program) (a .server .now) (a .view .now) (a .log .now) h (a .parent) (a .name .now) (a .second-parent) (a .second-name .now) (x .rename-refusal .result .object) (x .rename-refusal .result .displaced) is gone) _ (r) (u .issue-rename .result)
+    let r = rename-record (readLog (a .m) (a .log .now) .next) (a .program) (x .rename-refusal .result .object) (a .parent) (a .second-parent)
+    (x .rename-refusal .result .displaced) (a .name .now) (a .second-name .now) in
+    issued-outcome ch (k .change-refusal .result) (k .change-refusal .ensures) (c .before .before .before .before .before .before .before .before .if2 .left)
+    (Operation.rename (x .rename-refusal .result .object) (a .parent) (a .second-parent) (displacedBy (x .rename-refusal .result .displaced)) (a .name .now) (a .second-name .now))
+    (rename-issues (a .n) (a .b) (a .m) (a .program) (a .server .now) (a .view .now) (a .log .now) h (a .parent) (a .name .now) (a .second-parent) (a .second-name .now) (x .rename-refusal .result .object) (x .rename-refusal .result .displaced) is gone) _ r
+    (u .issue-rename .result)
     (u .issue-rename .last .0) (u .issue-rename .last .1 .0) (u .issue-rename .ensures) (c .of .result) (c .of .ensures)
 
 pub rename-spec : {M : Type 1} → statement M

@@ -20,7 +20,8 @@ returns c =
     let x = c .before .before .before in
     let a = x .before .before .before .before .args in
     let v = readVolume (a .n) (a .b) (a .view .now) in
-    rename-text v (a .parent) (a .name .now) (a .second) (a .second-name .now) (x .text-refusal .result) (c .before .before .text-refusal2 .result) (x .text-refusal .ensures) (c .before .before .text-refusal2 .ensures)
+    rename-text v (a .parent) (a .name .now) (a .second) (a .second-name .now) (x .text-refusal .result) (c .before .before .text-refusal2 .result)
+    (x .text-refusal .ensures) (c .before .before .text-refusal2 .ensures)
     (c .before .lower-of .result) (c .before .lower-of .ensures) (c .if1 .taken)
 
 seek-requires : tie.Need-seek-requires
@@ -37,8 +38,12 @@ returns-2 c =
     let x = c .before .before .before .before .before .before .before in
     let a = x .before .before .before .before .args in
     let v = readVolume (a .n) (a .b) (a .view .now) in
-    rename-place v (a .parent) (a .name .now) (a .second) (a .second-name .now) (x .text-refusal .result) (c .before .before .before .before .before .before .text-refusal2 .result) (x .text-refusal .ensures) (c .before .before .before .before .before .before .text-refusal2 .ensures)
-    (c .before .before .before .before .before .lower-of .result) (c .before .before .before .before .before .lower-of .ensures) (c .before .before .before .before .if1 .left) (c .before .before .before .seek .result .refused) (c .before .before .directory-refusal .result) (c .before .before .before .seek .result .object) (c .before .before .before .seek .ensures) (c .before .before .directory-refusal .ensures)
+    rename-place v (a .parent) (a .name .now) (a .second) (a .second-name .now) (x .text-refusal .result)
+    (c .before .before .before .before .before .before .text-refusal2 .result) (x .text-refusal .ensures)
+    (c .before .before .before .before .before .before .text-refusal2 .ensures)
+    (c .before .before .before .before .before .lower-of .result) (c .before .before .before .before .before .lower-of .ensures)
+    (c .before .before .before .before .if1 .left) (c .before .before .before .seek .result .refused) (c .before .before .directory-refusal .result)
+    (c .before .before .before .seek .result .object) (c .before .before .before .seek .ensures) (c .before .before .directory-refusal .ensures)
     (c .before .lower-of2 .result) (c .before .lower-of2 .ensures) (c .if2 .taken)
 
 displaced-by-requires : tie.Need-displaced-by-requires
@@ -51,8 +56,13 @@ move-refusal-requires c κs =
     let a = t .args in
     let v = readVolume (a .n) (a .b) (a .view .now) in
     let is =
-    rename-found v (a .parent) (a .name .now) (a .second) (a .second-name .now) (x .text-refusal .result) (c .before .before .before .before .before .before .before .text-refusal2 .result) (x .text-refusal .ensures) (c .before .before .before .before .before .before .before .text-refusal2 .ensures)
-    (c .before .before .before .before .before .before .lower-of .result) (c .before .before .before .before .before .before .lower-of .ensures) (c .before .before .before .before .before .if1 .left) (c .before .before .before .before .seek .result .refused) (c .before .before .before .directory-refusal .result) (c .before .before .before .before .seek .result .object) (c .before .before .before .before .seek .ensures) (c .before .before .before .directory-refusal .ensures)
+    rename-found v (a .parent) (a .name .now) (a .second) (a .second-name .now) (x .text-refusal .result)
+    (c .before .before .before .before .before .before .before .text-refusal2 .result) (x .text-refusal .ensures)
+    (c .before .before .before .before .before .before .before .text-refusal2 .ensures)
+    (c .before .before .before .before .before .before .lower-of .result) (c .before .before .before .before .before .before .lower-of .ensures)
+    (c .before .before .before .before .before .if1 .left) (c .before .before .before .before .seek .result .refused)
+    (c .before .before .before .directory-refusal .result) (c .before .before .before .before .seek .result .object) (c .before .before .before .before .seek .ensures)
+    (c .before .before .before .directory-refusal .ensures)
     (c .before .before .lower-of2 .result) (c .before .before .lower-of2 .ensures) (c .before .if2 .left) in
     (t .pre, (rw (length-read (a .n) (a .b) (a .view .now)) at (found-object v (a .parent) (a .name .now) (c .before .before .before .before .seek .result .object) is .0), c .displaced-by .ensures .1))
 
@@ -61,8 +71,13 @@ returns-3 c =
     let x = c .before .before .before .before .before .before .before .before .before in
     let a = x .before .before .before .before .args in
     let v = readVolume (a .n) (a .b) (a .view .now) in
-    rename-moved v (a .parent) (a .name .now) (a .second) (a .second-name .now) (x .text-refusal .result) (c .before .before .before .before .before .before .before .before .text-refusal2 .result) (x .text-refusal .ensures) (c .before .before .before .before .before .before .before .before .text-refusal2 .ensures)
-    (c .before .before .before .before .before .before .before .lower-of .result) (c .before .before .before .before .before .before .before .lower-of .ensures) (c .before .before .before .before .before .before .if1 .left) (c .before .before .before .before .before .seek .result .refused) (c .before .before .before .before .directory-refusal .result) (c .before .before .before .before .before .seek .result .object) (c .before .before .before .before .before .seek .ensures) (c .before .before .before .before .directory-refusal .ensures)
+    rename-moved v (a .parent) (a .name .now) (a .second) (a .second-name .now) (x .text-refusal .result)
+    (c .before .before .before .before .before .before .before .before .text-refusal2 .result) (x .text-refusal .ensures)
+    (c .before .before .before .before .before .before .before .before .text-refusal2 .ensures)
+    (c .before .before .before .before .before .before .before .lower-of .result) (c .before .before .before .before .before .before .before .lower-of .ensures)
+    (c .before .before .before .before .before .before .if1 .left) (c .before .before .before .before .before .seek .result .refused)
+    (c .before .before .before .before .directory-refusal .result) (c .before .before .before .before .before .seek .result .object)
+    (c .before .before .before .before .before .seek .ensures) (c .before .before .before .before .directory-refusal .ensures)
     (c .before .before .before .lower-of2 .result) (c .before .before .before .lower-of2 .ensures) (c .before .before .if2 .left)
     (c .before .displaced-by .result) (c .before .displaced-by .ensures .0) (c .move-refusal .result) (c .move-refusal .ensures)
 

@@ -1,5 +1,5 @@
 -- `writing::file::file_refusal` meets its contract: what the number names decides. Assumes nothing.
-use mathlib.Core.Path.{_≡_, sym, _∙_}
+use mathlib.Core.Path.{sym, _∙_}
 use Rattle.questions.specs.declared.object.Object.the-variants.{File, Directory, BadNumber, Free}
 use Rattle.search.specs.Stored.{readVolume}
 use Rattle.writing.specs.FileLaws.{file-number}

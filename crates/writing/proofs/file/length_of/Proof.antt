@@ -1,5 +1,5 @@
 -- `writing::file::length_of` meets its contract. Assumes nothing.
-use mathlib.Core.Path.{_≡_, ap}
+use mathlib.Core.Path.{ap}
 use lib.ListN.{length}
 use Rattle.entry.specs.Entry.{contentsOf}
 use Rattle.search.specs.AnswerLaws.{of-entry}

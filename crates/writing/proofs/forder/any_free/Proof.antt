@@ -6,7 +6,6 @@ use mathlib.Core.Path.{_≡_, refl, sym, ap, _∙_}
 use lib.ListN.{length, drop}
 use Rattle.records.specs.Fields.{objectsOf}
 use Rattle.records.specs.ListLaws.{count-objects}
-use Rattle.search.specs.Volume.{Volume}
 use Rattle.search.specs.Stored.{readVolume}
 use Rattle.log.specs.Order.{any}
 use Rattle.session.specs.Model.{isFree}

@@ -1,6 +1,5 @@
 -- `writing::forder::forder` meets its contract: refused for what it is lent, refused by its table, or issued. Assumes nothing.
-use mathlib.Core.Path.{_≡_, refl, sym, _∙_}
-use mathlib.Core.List.{[], _∷_}
+use mathlib.Core.Path.{refl, sym, _∙_}
 use Rattle.records.specs.Operation.{Operation}
 use Rattle.records.specs.Fields.{objectsOf}
 use Rattle.writer.specs.Code.Writer.{forderRecord}

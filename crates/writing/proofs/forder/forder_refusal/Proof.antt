@@ -1,7 +1,6 @@
 -- `writing::forder::forder_refusal` meets its contract: the shared tests of a list decide what is bad. Assumes nothing.
 use Prim.Native.Nat.{_≤_}
 use mathlib.Core.Path.{_≡_, sym, _∙_}
-use mathlib.Core.Bool.{Bool, true, false}
 use lib.ListN.{length}
 use Rattle.records.specs.Fields.{allBelow, objectsOf}
 use Rattle.search.specs.Volume.{Volume}

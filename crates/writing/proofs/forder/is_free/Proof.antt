@@ -1,7 +1,6 @@
 -- `writing::forder::is_free` meets its contract. Assumes nothing.
-use native.Mathlib.Omega.{arith}
 use Prim.Native.Nat.{_≤_}
-use mathlib.Core.Path.{_≡_, sym, ap, _∙_}
+use mathlib.Core.Path.{sym, ap}
 use mathlib.Core.Bool.{not}
 use lib.ListN.{length}
 use Rattle.entry.specs.Entry.{isUsed}

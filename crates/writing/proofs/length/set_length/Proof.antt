@@ -1,5 +1,5 @@
 -- `writing::length::set_length` meets its contract: refused for what it is lent, refused by its table, or issued. Assumes nothing.
-use mathlib.Core.Path.{_≡_, refl, sym, _∙_}
+use mathlib.Core.Path.{refl, sym, _∙_}
 use Rattle.records.specs.Operation.{Operation}
 use Rattle.writer.specs.Code.Writer.{lengthRecord}
 use Rattle.log.specs.Stored.{readLog}

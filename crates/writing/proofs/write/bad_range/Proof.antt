@@ -1,7 +1,7 @@
 -- `writing::write::bad_range` meets its contract: each test is one of the ways to be bad. Assumes nothing.
 use native.Mathlib.Omega.{arith}
-use Prim.Native.Nat.{_+_, _*_, _-_, _%_, _<_, _≤_}
-use mathlib.Core.Path.{_≡_, sym, _∙_}
+use Prim.Native.Nat.{_+_, _*_, _-_}
+use mathlib.Core.Path.{sym, _∙_}
 use mathlib.Core.Logic.{⊎-elim}
 use borrow.Author.Tests.{lt-ltb}
 use Rattle.writing.specs.FileLaws.{empty-bad, across-bad, beyond-bad, end-bad, last-bad, room-left}

@@ -6,7 +6,7 @@ use lib.ListN.{length}
 use lib.Dec.{eqb}
 use Rattle.records.specs.declared.kind.Kind.{Kind}
 use Rattle.records.specs.Kind.{mapOfKind}
-use Rattle.records.specs.Operation.{Operation, Record, recordOf}
+use Rattle.records.specs.Operation.{Record, recordOf}
 use Rattle.writer.specs.Code.Writer.{rangeRecord}
 use Rattle.entry.specs.Entry.{contentsOf}
 use Rattle.search.specs.Volume.{Volume, entryAt}

@@ -35,7 +35,7 @@ length-of-requires c κs =
     let f = c .before in
     let s = f .before .before .before in
     let a = s .args in
-    (s .pre, rw (length-read (a .n) (a .b) (a .view .now)) at (file-below (volume s) (a .object) (sym (c .if1 .left) ∙ f .file-refusal .ensures)))
+    (s .pre, rw (length-read (a .n) (a .b) (a .view .now)) at (file-below (volume s) (a .object) [] (sym (c .if1 .left) ∙ f .file-refusal .ensures)))
 
 bad-range-requires : tie.Need-bad-range-requires
 bad-range-requires c κs = search needs

@@ -1,0 +1,4 @@
+pub mod Poke
+pub mod Digest
+pub mod DigestLaws
+pub mod Length

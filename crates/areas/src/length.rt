@@ -1,0 +1,49 @@
+// The lengths that are lent of the areas.
+ghost use Prim.Native.Nat.{_+_, _*_};
+ghost use Rattle.areas.specs.Length.{Reckoned};
+
+// The lengths lent of the areas; `Over` where one exceeds an area.
+pub enum Lengths {
+    Are(usize, usize, usize),
+    Over,
+}
+
+// The lengths as they are given.
+pub fn lent_lengths(server: u64, view: u64, log: u64) -> Lengths {
+    if 32768 < server {
+        return Lengths::Over;
+    }
+    if 32768 < view {
+        return Lengths::Over;
+    }
+    if 32768 < log {
+        return Lengths::Over;
+    }
+    Lengths::Are(server as usize, view as usize, log as usize)
+}
+
+// The bytes of a volume, n × (68 + 1,024 × b); some number over 32,768 where they are more than that.
+pub fn volume_bytes(n: u64, b: u64) -> u64
+    ensures { λ r. ⌜ Reckoned (n * (68 + 1024 * b)) r ⌝ }
+{
+    if n == 0 {
+        return 0;
+    }
+    if 31 < b {
+        return 32769;
+    }
+    if 481 < n {
+        return 32769;
+    }
+    n * (68 + 1024 * b)
+}
+
+// The bytes of a log, 8 + m × 1,048; some number over 32,768 where they are more than that.
+pub fn log_bytes(m: u64) -> u64
+    ensures { λ r. ⌜ Reckoned (8 + m * 1048) r ⌝ }
+{
+    if 31 < m {
+        return 32769;
+    }
+    8 + m * 1048
+}

@@ -1,0 +1,23 @@
+-- `words::number::put_number` meets its contract: a number of 64 bits has at most 20 digits.
+-- Assumes nothing.
+use native.Mathlib.Omega.{arith}
+use borrow.Author.Needs.{needs}
+use Prim.Native.Nat.{_^_}
+use Rattle.report.specs.DecimalLaws.{length-below}
+use Rattle.words.proofs.number.put_number.Statement.{statement}
+use Rattle.words.proofs.number.put_number.Tie as tie
+
+put-decimal-requires : tie.Need-put-decimal-requires
+put-decimal-requires c κs = omega (arith, length-below 19 (c .before .before .args .v) (omega arith))
+
+same-length : tie.Need-same-length
+same-length c = search needs
+
+returns : tie.Need-returns
+returns c =
+    let a = c .before .before .before .before .before .args in
+    let p = c .before .before .put-decimal in
+    (omega (arith, p .ensures .0, length-below 19 (a .v) (omega arith)), p .ensures .0, p .ensures .1)
+
+pub put-number-spec : {M : Type 1} → statement M
+put-number-spec = tie.close (tie.spec put-decimal-requires same-length returns)
