@@ -86,7 +86,7 @@ extern "C" {
 #define WB_LIST_OBJECTS 8               /* the most objects of a forder */
 #define WB_RECORD_BYTES 1040            /* the longest loss record; the least buffer for wb_take */
 #define WB_LAST_SEQUENCE 4294967294     /* the greatest sequence number */
-#define WB_STACK_BYTES 131072           /* to be measured */
+#define WB_STACK_BYTES 40960            /* the most that a call takes; measured: 33,488 (host/stack) */
 
 /* The bytes of a volume (server volume or view) of n objects and b blocks a file, and of a log of m slots. They are constant
  * expressions where their arguments are. */

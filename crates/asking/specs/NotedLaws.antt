@@ -11,8 +11,7 @@ use Rattle.returned.specs.Returned
 use Rattle.search.specs.Stored.{readVolume}
 use Rattle.log.specs.Programs.{holds}
 use Rattle.log.specs.Stored.{encodeLog, readLog}
-use Rattle.log.specs.GeometryLaws.{formed-most}
-use Rattle.log.specs.Code.Slots.{Logged}
+use Rattle.log.specs.GeometryLaws.{logged-most}
 use Rattle.log.specs.Change
 use Rattle.session.specs.Call.{Call, Answer, geometry, buffers, refusal, answer}
 use Rattle.session.specs.Model.{unless, programRows}
@@ -24,11 +23,6 @@ use Rattle.admission.specs.Code.Admitted.{admission, modelIn}
 use Rattle.admission.specs.AdmittedLaws.{admitted, not-admitted}
 use Rattle.admission.specs.TurnLaws.{refused, answered, accepted}
 use Rattle.asking.specs.Code.Asked.{firstRefusal, MayAsk}
-
--- A log of any geometry is one of the largest.
-logged-most : (n b m : ℕ) (l : List ℕ) → Logged n b m l → Logged 256 64 m l
-logged-most n b m l u =
-    record { objects = omega arith; blocks = omega arith; most = u .most; whole = u .whole; form = formed-most n b m (readLog m l) (u .objects) (u .blocks) (u .form); stored = u .stored }
 
 module _ (n b m p : ℕ) (s v l : List ℕ) where
   -- What is lent is refused before the program.

@@ -19,7 +19,7 @@ use Rattle.log.specs.Change.{waitingOf, note, discard}
 use Rattle.log.specs.ChangeLaws.{note-good}
 use Rattle.log.specs.Sends.{applying, applyAll, sentAll}
 use Rattle.log.specs.FreedLaws.{formed-rising, sent-kept, kept-formed, chosen-noted, wait-noted}
-use Rattle.log.specs.GeometryLaws.{formed-most, logged-whole}
+use Rattle.log.specs.GeometryLaws.{logged-whole}
 use Rattle.log.specs.Code.Slots.{Logged}
 use Rattle.log.specs.Code.Flags.{chosen, kept, AllWait}
 use Rattle.sending.specs.Code.Sends.{SentFound}
@@ -36,11 +36,6 @@ applying-most (r ∷ rs) v = go (applies v (r .operation)) (applying-most rs (ap
     go : (t : Bool) → applying rs (apply v (r .operation)) ≤ length rs → cond t (suc (applying rs (apply v (r .operation)))) 0 ≤ suc (length rs)
     go true h = omega arith
     go false h = omega arith
-
--- A log of any geometry is one of the largest.
-pub logged-most : (n b m : ℕ) (s : List ℕ) → Logged n b m s → Logged 256 64 m s
-logged-most n b m s u =
-    record { objects = omega arith; blocks = omega arith; most = u .most; whole = u .whole; form = formed-most n b m (readLog m s) (u .objects) (u .blocks) (u .form); stored = u .stored }
 
 -- what is known after the operations that an object needs were found and sent
 pub record Counted (b k : ℕ) (need : List Record) (v : Volume) (slots : List Slot) (server found : List ℕ) (sent d : ℕ) : Type 0 where

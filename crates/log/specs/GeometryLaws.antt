@@ -178,6 +178,11 @@ logged-whole n b m l h hn hb hm =
     let e = read-log n b m l h in
     record { objects = hn; blocks = hb; most = hm; whole = length-log n b m l h; form = rw e h; stored = rw e }
 
+-- A log of any geometry is one of the largest.
+pub logged-most : (n b m : ℕ) (s : List ℕ) → Logged n b m s → Logged 256 64 m s
+logged-most n b m s u =
+    record { objects = omega arith; blocks = omega arith; most = u .most; whole = u .whole; form = formed-most n b m (readLog m s) (u .objects) (u .blocks) (u .form); stored = u .stored }
+
 -- the next number and the marks are those in a log's head
 pub logged-next : (m : ℕ) (s : List ℕ) → numeral (take 4 s) ≡ readLog m s .next
 unfolding readLog

@@ -10,9 +10,9 @@ use Rattle.log.specs.Slot.{Slot, sequenceOf, goodSlots}
 use Rattle.log.specs.Stored.{readLog}
 use Rattle.log.specs.OrderLaws.{Rising}
 use Rattle.log.specs.FreedLaws.{formed-rising}
-use Rattle.log.specs.GeometryLaws.{used-most, used-good}
+use Rattle.log.specs.GeometryLaws.{used-most, used-good, logged-most}
 use Rattle.slots.specs.HeadLaws.{lent-slotted, lent-slots}
-use Rattle.fsync.specs.SyncLaws.{logged-most, counted, stopped, carried, fell, noted-logged, noted-waits, freed, freed-logged, cut-after}
+use Rattle.fsync.specs.SyncLaws.{counted, stopped, carried, fell, noted-logged, noted-waits, freed, freed-logged, cut-after}
 use borrow.Author.Needs.{needs}
 use Rattle.fsync.proofs.fsync.Statement.{statement}
 use Rattle.fsync.proofs.fsync.Tie as tie

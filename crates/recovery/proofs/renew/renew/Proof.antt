@@ -3,7 +3,7 @@ use mathlib.Core.Path.{sym, _∙_, subst}
 use Rattle.log.specs.Stored.{readLog}
 use Rattle.log.specs.Change.{isLossOf}
 use Rattle.discard.specs.Code.Found.{FoundBy}
-use Rattle.fsync.specs.SyncLaws.{logged-most}
+use Rattle.log.specs.GeometryLaws.{logged-most}
 use Rattle.session.specs.Call.{geometry, buffers, renew}
 use Rattle.admission.specs.AdmittedLaws.{not-admitted, admitted}
 use Rattle.recovery.specs.NumberLaws.{number-small}

@@ -4,7 +4,7 @@ use Rattle.log.specs.Stored.{readLog}
 use Rattle.log.specs.Change.{isLossOf}
 use Rattle.discard.specs.declared.find.Position.the-variants.{At}
 use Rattle.discard.specs.Code.Found.{FoundBy}
-use Rattle.fsync.specs.SyncLaws.{logged-most}
+use Rattle.log.specs.GeometryLaws.{logged-most}
 use Rattle.session.specs.Call.{geometry, buffers, take}
 use Rattle.admission.specs.AdmittedLaws.{not-admitted, admitted}
 use Rattle.recovery.specs.TakeLaws.{take-bad, take-none, take-short, take-writes}

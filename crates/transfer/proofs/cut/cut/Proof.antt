@@ -2,7 +2,7 @@
 use mathlib.Core.Path.{sym, _∙_}
 use Rattle.session.specs.Call.{geometry, buffers, cut}
 use Rattle.admission.specs.AdmittedLaws.{not-admitted, admitted}
-use Rattle.fsync.specs.SyncLaws.{logged-most}
+use Rattle.log.specs.GeometryLaws.{logged-most}
 use Rattle.transfer.specs.CutLaws.{cut-left}
 use borrow.Author.Needs.{needs}
 use Rattle.transfer.proofs.cut.cut.Statement.{statement}

@@ -12,7 +12,7 @@ use Rattle.discard.specs.Code.Found.{FoundBy}
 use Rattle.sending.specs.Code.Sends.{Pushed}
 use Rattle.session.specs.Call.{geometry, buffers, push}
 use Rattle.admission.specs.AdmittedLaws.{not-admitted, admitted}
-use Rattle.fsync.specs.SyncLaws.{logged-most}
+use Rattle.log.specs.GeometryLaws.{logged-most}
 use Rattle.transfer.specs.PushLaws.{push-none, push-behind, push-sends, push-fails}
 use borrow.Author.Needs.{needs}
 use Rattle.transfer.proofs.push.push.Statement.{statement}
