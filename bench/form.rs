@@ -13,13 +13,13 @@ const B: usize = 64;
 
 // A slice goes to Rattle as its address and its length.
 extern "C" {
-    fn wb_volume_form(volume: *const u8, length: usize, n: u64, b: u64) -> u64;
+    fn bench_volume_form(volume: *const u8, length: usize, n: usize, b: usize) -> u64;
 }
 
 /// The proved check: 0 well formed, 1 wrong numbers or length, 2 not well formed.
 #[inline(never)]
 fn proved(bytes: &[u8]) -> u64 {
-    unsafe { wb_volume_form(bytes.as_ptr(), bytes.len(), N as u64, B as u64) }
+    unsafe { bench_volume_form(bytes.as_ptr(), bytes.len(), N, B) }
 }
 
 /// The second program's check.

@@ -1,3 +1,4 @@
 pub mod Code
 pub mod AdmittedLaws
+pub mod ObjectLaws
 pub mod TurnLaws

@@ -42,7 +42,8 @@ module _ (n b m p : ℕ) (s v l : List ℕ) where
       go true f h z = ltb-true p 32 f
       go false f h z = absurd (omega arith)
 
-  -- Where nothing refuses it first, a question may be asked.
+-- Where nothing refuses it first, a question may be asked.
+module _ {n b m p : ℕ} {s v l : List ℕ} where
   pub may-ask : 0 ≡ firstRefusal n b m p s v l → MayAsk n b m p s v l
   unfolding firstRefusal
   may-ask e = go (admission (geometry n b m) (buffers s v l)) refl e
@@ -53,7 +54,7 @@ module _ (n b m p : ℕ) (s v l : List ℕ) where
           at : (t : Bool) → eqb k 0 ≡ t → 0 ≡ cond t (firstNumber (programRows (readLog m l) p)) k → MayAsk n b m p s v l
           at true f z =
               let h = admitted n b m s v l (e ∙ eqb-true k 0 f) in
-              record { admitted = h; log = logged-most n b m l (h .log); program = fine-program z; none = z }
+              record { admitted = h; log = logged-most n b m l (h .log); program = fine-program n b m p s v l z; none = z }
           at false f z = absurd (eqb-false k 0 f (sym z))
 
 -- a call that asks: the program's rows refuse it, or its answer stands; a refused one has no effect
@@ -101,7 +102,7 @@ module _ {n b m p : ℕ} {s v l : List ℕ} {c : Call} {a : Answer} (q : Asks n 
         ∙ ap (λ (es : List Effect). record { gives = a; leaves = encodeModel (geometry n b m) (performAll es (modelIn n b m s v l)) }) f
         ∙ (λ i. record { gives = e i; leaves = buffers (h .admitted .server .stored i) (h .admitted .view .stored i) (sym g i) }))
 
--- An answer's number and results, and what is left in the call's own buffer, by what the question answered.
-pub answered-as : {X : Type 0} (number : X → ℕ) (results : X → List ℕ) {x y : X} {own left : List ℕ} → x ≡ y → left ≡ own
-    → answer (number x) (results x) own ≡ answer (number y) (results y) left
-answered-as number results e f = λ i. answer (number (e i)) (results (e i)) (sym f i)
+-- What a call tells of a question's answer, and what is left in its own buffer, is what the question gives.
+pub told-as : {X : Type 0} (number : X → ℕ) (results : X → List ℕ) {x y : X} {k : ℕ} {r own left : List ℕ} → y ≡ x → (k ≡ number y) × (r ≡ results y) → left ≡ own
+    → answer (number x) (results x) own ≡ answer k r left
+told-as number results e t f = λ i. answer (sym (t .0 ∙ ap number e) i) (sym (t .1 ∙ ap results e) i) (sym f i)

@@ -31,6 +31,7 @@ use Rattle.session.specs.Call.{Call, Answer, answer}
 use Rattle.session.specs.Call
 use Rattle.session.specs.Question as Question
 use Rattle.session.specs.Step.{answerOf}
+use Rattle.asking.specs.Code.Asked.{MayAsk}
 use Rattle.asking.specs.NotedLaws.{Asks}
 
 -- what each question answers
@@ -47,22 +48,22 @@ abbrev pub readGives : Volume → ℕ → ℕ → List ℕ → Answer
 readGives v o f own = answer (readNumber (readAnswer v o f own)) (readResults (readAnswer v o f own)) (readLeaves v o f own)
 
 -- Each is refused for its program, or answers of the view.
-module _ (n b m p : ℕ) (s v l : List ℕ) where
-  pub lookup-asks : (path : List ℕ) → Asks n b m p s v l (Call.lookup p path) (lookupGives (readVolume n b v) path)
+module _ {n b m p : ℕ} {s v l : List ℕ} where
+  pub lookup-asks : {path : List ℕ} → Asks n b m p s v l (Call.lookup p path) (lookupGives (readVolume n b v) path)
   unfolding answerOf Question.lookupOf
-  lookup-asks path = record { is = refl; quiet = λ x. refl }
+  lookup-asks = record { is = refl; quiet = λ x. refl }
 
-  pub list-asks : (o : ℕ) (own : List ℕ) → Asks n b m p s v l (Call.list p o own) (listGives (readVolume n b v) o own)
+  pub list-asks : {o : ℕ} {own : List ℕ} → Asks n b m p s v l (Call.list p o own) (listGives (readVolume n b v) o own)
   unfolding answerOf Question.listOf
-  list-asks o own = record { is = refl; quiet = λ x. refl }
+  list-asks = record { is = refl; quiet = λ x. refl }
 
-  pub stat-asks : (o : ℕ) → Asks n b m p s v l (Call.stat p o) (statGives (readVolume n b v) o)
+  pub stat-asks : {o : ℕ} → Asks n b m p s v l (Call.stat p o) (statGives (readVolume n b v) o)
   unfolding answerOf Question.statOf
-  stat-asks o = record { is = refl; quiet = λ x. refl }
+  stat-asks = record { is = refl; quiet = λ x. refl }
 
-  pub read-asks : (o f : ℕ) (own : List ℕ) → Asks n b m p s v l (Call.read p o f own) (readGives (readVolume n b v) o f own)
+  pub read-asks : {o f : ℕ} {own : List ℕ} → Asks n b m p s v l (Call.read p o f own) (readGives (readVolume n b v) o f own)
   unfolding answerOf Question.readOf
-  read-asks o f own = record { is = refl; quiet = λ x. refl }
+  read-asks = record { is = refl; quiet = λ x. refl }
 
 -- ---- the object of an accepted question
 
@@ -75,26 +76,26 @@ named-below v o = go (ltb o (length v)) refl
     go true e h = ltb-true o (length v) e
     go false e h = absurd (h refl)
 
--- so the object of a question that is accepted is below 256
-module _ (n b : ℕ) (s : List ℕ) (most : n ≤ 256) (o : ℕ) where
-  named-few : (objectAnswer (readVolume n b s) o ≡ BadNumber → ⊥) → o < 256
-  named-few h = let z = named-below (readVolume n b s) o h in let e = length-read n b s in omega arith
+-- so the object of a question that may be asked and is accepted is below 256
+module _ {n b m p : ℕ} {s v l : List ℕ} (h : MayAsk n b m p s v l) (o : ℕ) where
+  named-few : (objectAnswer (readVolume n b v) o ≡ BadNumber → ⊥) → o < 256
+  named-few f = let z = named-below (readVolume n b v) o f in let e = length-read n b v in let most = h .admitted .view .lent .most in omega arith
 
-  pub stat-few : statNumber (statAnswer (readVolume n b s) o) ≡ 0 → o < 256
+  pub stat-few : statNumber (statAnswer (readVolume n b v) o) ≡ 0 → o < 256
   unfolding statAnswer
-  stat-few e = named-few (λ f. let z : _≡_ {A = ℕ} 7 0 = sym (ap (λ (x : Object). statNumber (statOf x (entryAt (readVolume n b s) o))) f) ∙ e in omega arith)
+  stat-few e = named-few (λ f. let z : _≡_ {A = ℕ} 7 0 = sym (ap (λ (x : Object). statNumber (statOf x (entryAt (readVolume n b v) o))) f) ∙ e in omega arith)
 
-  pub list-few : (own : List ℕ) → listNumber (listAnswer (readVolume n b s) o own) ≡ 0 → o < 256
+  pub list-few : (own : List ℕ) → listNumber (listAnswer (readVolume n b v) o own) ≡ 0 → o < 256
   unfolding listAnswer
   list-few own e =
-      let v = readVolume n b s in
-      named-few (λ f. let z : _≡_ {A = ℕ} 7 0 = sym (ap (λ (x : Object). listNumber (listOf x (listing v o (length v)) own)) f) ∙ e in omega arith)
+      let w = readVolume n b v in
+      named-few (λ f. let z : _≡_ {A = ℕ} 7 0 = sym (ap (λ (x : Object). listNumber (listOf x (listing w o (length w)) own)) f) ∙ e in omega arith)
 
-  pub read-few : (f : ℕ) (own : List ℕ) → readNumber (readAnswer (readVolume n b s) o f own) ≡ 0 → o < 256
+  pub read-few : (f : ℕ) (own : List ℕ) → readNumber (readAnswer (readVolume n b v) o f own) ≡ 0 → o < 256
   unfolding readAnswer
   read-few f own e =
-      let v = readVolume n b s in
-      named-few (λ g. let z : _≡_ {A = ℕ} 7 0 = sym (ap (λ (x : Object). readNumber (readOf x (contentsOf (entryAt v o)) f own)) g) ∙ e in omega arith)
+      let w = readVolume n b v in
+      named-few (λ g. let z : _≡_ {A = ℕ} 7 0 = sym (ap (λ (x : Object). readNumber (readOf x (contentsOf (entryAt w o)) f own)) g) ∙ e in omega arith)
 
 -- ---- the objects that a lookup meets
 
@@ -139,17 +140,18 @@ operands-below v k le h path = go (pathTextOf path)
     go Components = rw (lt-ltb 0 k h) (objects-below v k le 0 (components path))
 
 -- Marks that were none hold just lookup's operands.
-pub marks-held : (n b : ℕ) (s path : List ℕ) → n ≤ 256 → (marks : List ℕ) → marks ≡ objectsMarked (lookupOperands (readVolume n b s) path) (replicate 256 0)
-    → Holds marks (lookupOperands (readVolume n b s) path)
-marks-held n b s path most marks e =
-    let v = readVolume n b s in
-    let z = length-read n b s in
-    let below = operands-below v 256 (omega arith) (omega arith) path in
+pub marks-held : {n b m p : ℕ} {s v l : List ℕ} → MayAsk n b m p s v l → (path : List ℕ) {marks : List ℕ}
+    → marks ≡ objectsMarked (lookupOperands (readVolume n b v) path) (replicate 256 0) → Holds marks (lookupOperands (readVolume n b v) path)
+marks-held {n} {b} {v = v} h path e =
+    let w = readVolume n b v in
+    let z = length-read n b v in
+    let most = h .admitted .view .lent .most in
+    let below = operands-below w 256 (omega arith) (omega arith) path in
     record {
       same =
           λ x.
-          ap (λ (k : List ℕ). stands k x) e ∙ marked-stands (lookupOperands v path) (replicate 256 0) below x
-          ∙ rw (zeros-at 256 x) (or-none (member x (lookupOperands v path)));
+          ap (λ (k : List ℕ). stands k x) e ∙ marked-stands (lookupOperands w path) (replicate 256 0) below x
+          ∙ rw (zeros-at 256 x) (or-none (member x (lookupOperands w path)));
     }
   where
     or-none : (t : Bool) → (t || false) ≡ t

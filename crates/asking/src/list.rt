@@ -1,6 +1,7 @@
 // "list (per child number 2, kind 1, name length 1, name; rising numbers)".
 ghost use mathlib.Core.Path.{_≡_};
 ghost use mathlib.Core.List.{[], _∷_};
+ghost use Rattle.questions.specs.Answer.{listNumber, listResults};
 ghost use Rattle.session.specs.Call.{geometry, buffers};
 ghost use Rattle.session.specs.Call;
 ghost use Rattle.session.specs.Step.{given, step};
@@ -13,6 +14,20 @@ use returned::NO_OBJECT;
 use returned::SHORT_BUFFER;
 use returned::Value;
 use returned::WRONG_KIND;
+
+// The returned number of an answer, and how many bytes were written.
+fn value_of(answer: Listed) -> Value
+    ensures { λ r. ⌜ r .returned ≡ listNumber answer ⌝ }
+    ensures { λ r. ⌜ (r .value ∷ []) ≡ listResults answer ⌝ }
+{
+    match answer {
+        Listed::BadNumber => Value::refused(BAD_NUMBER),
+        Listed::NoObject => Value::refused(NO_OBJECT),
+        Listed::WrongKind => Value::refused(WRONG_KIND),
+        Listed::Short => Value::refused(SHORT_BUFFER),
+        Listed::Bytes(count) => Value::of(ACCEPTED, count),
+    }
+}
 
 pub fn list(
     n: usize,
@@ -31,14 +46,10 @@ pub fn list(
     if refused != ACCEPTED {
         return Value::refused(refused);
     }
-    match questions::listing::list(view, n, b, object, buffer) {
-        Listed::BadNumber => Value::refused(BAD_NUMBER),
-        Listed::NoObject => Value::refused(NO_OBJECT),
-        Listed::WrongKind => Value::refused(WRONG_KIND),
-        Listed::Short => Value::refused(SHORT_BUFFER),
-        Listed::Bytes(count) => {
-            note_object(log, m, program, object);
-            Value::of(ACCEPTED, count)
-        }
+    let told = value_of(questions::listing::list(view, n, b, object, buffer));
+    if told.returned != 0 {
+        return told;
     }
+    note_object(log, m, program, object);
+    told
 }

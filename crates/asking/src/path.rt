@@ -1,6 +1,7 @@
 // "Lookup alone takes a path and gives an object number"; its "operands are the directories it searches and the object found".
 ghost use mathlib.Core.Path.{_≡_};
 ghost use mathlib.Core.List.{[], _∷_};
+ghost use Rattle.lookup.specs.Lookup.{reachedNumber, reachedResults};
 ghost use Rattle.session.specs.Call.{geometry, buffers};
 ghost use Rattle.session.specs.Call;
 ghost use Rattle.session.specs.Step.{given, step};
@@ -13,6 +14,20 @@ use returned::LONG_NAME;
 use returned::NO_OBJECT;
 use returned::Value;
 use returned::WRONG_KIND;
+
+// The returned number of an answer, and the object found.
+fn value_of(answer: Reached) -> Value
+    ensures { λ r. ⌜ r .returned ≡ reachedNumber answer ⌝ }
+    ensures { λ r. ⌜ (r .value ∷ []) ≡ reachedResults answer ⌝ }
+{
+    match answer {
+        Reached::BadName => Value::refused(BAD_NAME),
+        Reached::LongName => Value::refused(LONG_NAME),
+        Reached::NoObject => Value::refused(NO_OBJECT),
+        Reached::WrongKind => Value::refused(WRONG_KIND),
+        Reached::Found(object) => Value::of(ACCEPTED, object),
+    }
+}
 
 pub fn lookup(
     n: usize,
@@ -31,14 +46,10 @@ pub fn lookup(
         return Value::refused(refused);
     }
     let mut marks = [0u8; 256];
-    match lookup::lookup::lookup(view, n, b, path, &mut marks) {
-        Reached::BadName => Value::refused(BAD_NAME),
-        Reached::LongName => Value::refused(LONG_NAME),
-        Reached::NoObject => Value::refused(NO_OBJECT),
-        Reached::WrongKind => Value::refused(WRONG_KIND),
-        Reached::Found(object) => {
-            note(log, m, program, &mut marks);
-            Value::of(ACCEPTED, object)
-        }
+    let told = value_of(lookup::lookup::lookup(view, n, b, path, &mut marks));
+    if told.returned != 0 {
+        return told;
     }
+    note(log, m, program, &mut marks);
+    told
 }

@@ -1,6 +1,7 @@
 // "Read gives the smaller of the buffer length and what follows the offset; other bytes stay."
 ghost use mathlib.Core.Path.{_≡_};
 ghost use mathlib.Core.List.{[], _∷_};
+ghost use Rattle.questions.specs.Answer.{readNumber, readResults};
 ghost use Rattle.session.specs.Call.{geometry, buffers};
 ghost use Rattle.session.specs.Call;
 ghost use Rattle.session.specs.Step.{given, step};
@@ -13,6 +14,20 @@ use returned::BAD_RANGE;
 use returned::NO_OBJECT;
 use returned::Value;
 use returned::WRONG_KIND;
+
+// The returned number of an answer, and how many bytes were written.
+fn value_of(answer: Copied) -> Value
+    ensures { λ r. ⌜ r .returned ≡ readNumber answer ⌝ }
+    ensures { λ r. ⌜ (r .value ∷ []) ≡ readResults answer ⌝ }
+{
+    match answer {
+        Copied::BadNumber => Value::refused(BAD_NUMBER),
+        Copied::NoObject => Value::refused(NO_OBJECT),
+        Copied::WrongKind => Value::refused(WRONG_KIND),
+        Copied::BadRange => Value::refused(BAD_RANGE),
+        Copied::Bytes(count) => Value::of(ACCEPTED, count),
+    }
+}
 
 pub fn read(
     n: usize,
@@ -32,14 +47,10 @@ pub fn read(
     if refused != ACCEPTED {
         return Value::refused(refused);
     }
-    match questions::reading::read(view, n, b, object, offset, buffer) {
-        Copied::BadNumber => Value::refused(BAD_NUMBER),
-        Copied::NoObject => Value::refused(NO_OBJECT),
-        Copied::WrongKind => Value::refused(WRONG_KIND),
-        Copied::BadRange => Value::refused(BAD_RANGE),
-        Copied::Bytes(count) => {
-            note_object(log, m, program, object);
-            Value::of(ACCEPTED, count)
-        }
+    let told = value_of(questions::reading::read(view, n, b, object, offset, buffer));
+    if told.returned != 0 {
+        return told;
     }
+    note_object(log, m, program, object);
+    told
 }

@@ -1,6 +1,7 @@
 // "stat (kind, length, usage)".
 ghost use mathlib.Core.Path.{_≡_};
 ghost use mathlib.Core.List.{[], _∷_};
+ghost use Rattle.questions.specs.Answer.{statNumber, statResults};
 ghost use Rattle.session.specs.Call.{geometry, buffers};
 ghost use Rattle.session.specs.Call;
 ghost use Rattle.session.specs.Step.{given, step};
@@ -12,6 +13,18 @@ use returned::ACCEPTED;
 use returned::BAD_NUMBER;
 use returned::NO_OBJECT;
 use returned::Status;
+
+// The returned number of an answer, and what it tells of the object.
+fn status_of(answer: Stat) -> Status
+    ensures { λ r. ⌜ r .returned ≡ statNumber answer ⌝ }
+    ensures { λ r. ⌜ (r .kind ∷ r .length ∷ r .usage ∷ []) ≡ statResults answer ⌝ }
+{
+    match answer {
+        Stat::BadNumber => Status::refused(BAD_NUMBER),
+        Stat::NoObject => Status::refused(NO_OBJECT),
+        Stat::Is(kind, length, usage) => Status::of(kind, length, usage),
+    }
+}
 
 pub fn stat(
     n: usize,
@@ -29,12 +42,10 @@ pub fn stat(
     if refused != ACCEPTED {
         return Status::refused(refused);
     }
-    match stat_of(view, n, b, object) {
-        Stat::BadNumber => Status::refused(BAD_NUMBER),
-        Stat::NoObject => Status::refused(NO_OBJECT),
-        Stat::Is(kind, length, usage) => {
-            note_object(log, m, program, object);
-            Status::of(kind, length, usage)
-        }
+    let told = status_of(stat_of(view, n, b, object));
+    if told.returned != 0 {
+        return told;
     }
+    note_object(log, m, program, object);
+    told
 }

@@ -40,6 +40,7 @@ fn begin_log(log: &mut [u8], m: usize)
     log[0] = 1;
 }
 
+// Format: "1 Wrong buffer", or a volume with only a root, whatever the bytes were.
 pub fn format(n: usize, b: usize, m: usize, server: &mut [u8]) -> Code
     ensures returned { λ r. ⌜ r .returned ≡ format (geometry n b m) (now (server .entry)) ⌝ }
     ensures volume { λ r. ⌜ now (server .exit) ≡ formatLeaves (geometry n b m) (now (server .entry)) ⌝ }
@@ -51,6 +52,7 @@ pub fn format(n: usize, b: usize, m: usize, server: &mut [u8]) -> Code
     Code::of(WRONG_BUFFER)
 }
 
+// Mount: 1, 2, or the server volume copied and an empty log, whatever the view and the log were.
 pub fn mount(n: usize, b: usize, m: usize, server: &[u8], view: &mut [u8], log: &mut [u8]) -> Code
     ensures { λ r. ⌜ given (r .returned) [] [] (buffers (now (server .entry)) (now (view .exit)) (now (log .exit))) ≡ mount (geometry n b m) (buffers (now (server .entry)) (now (view .entry)) (now (log .entry))) ⌝ }
 {

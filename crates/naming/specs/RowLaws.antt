@@ -6,19 +6,16 @@ use mathlib.Core.List.{List, [], _∷_, _++_}
 use mathlib.Core.Bool.{Bool, true, false, not, _&&_, _||_, cond}
 use mathlib.Core.Option.{Option, none, some}
 use lib.ListN.{length}
-use lib.Dec.{ltb, eqb}
+use lib.Dec.{eqb}
 use borrow.Author.Tests.{eqb-true, eqb-false, eq-eqb, ne-eqb, lt-ltb, le-ltb}
 use Rattle.returned.specs.Returned
 use Rattle.names.specs.declared.NameText.{NameText}
 use Rattle.names.specs.declared.NameText.the-variants.{Fine, Bad, Long}
 use Rattle.names.specs.Name.{nameTextOf, nameNumber}
-use Rattle.entry.specs.Entry.{Entry, free, file, directory, isUsed, isDirectory, kindNumber}
+use Rattle.entry.specs.Entry.{isUsed, isDirectory, kindNumber}
 use Rattle.search.specs.Volume.{Volume, entryAt, search, hasChildren}
 use Rattle.search.specs.SearchLaws.{search-found, named-inv}
 use Rattle.applies.specs.Apply.{isAbsent}
-use Rattle.questions.specs.declared.object.Object.{Object}
-use Rattle.questions.specs.declared.object.Object.the-variants.{File, Directory, BadNumber, Free}
-use Rattle.questions.specs.Answer.{objectOf, objectAnswer}
 use Rattle.writer.specs.Code.Writer.{displacedBy}
 use Rattle.session.specs.Issue.{displaced}
 use Rattle.session.specs.Refusal.{Row, row, lower}
@@ -26,8 +23,9 @@ use Rattle.session.specs.Model.{isBad, isLong, outside, isFree}
 use Rattle.session.specs.Edit.{ofFound, wrongRename, removeRows, renameRows}
 use Rattle.session.specs.Code.Table.{firstNumber}
 use Rattle.session.specs.RefusalLaws.{lower-is}
+use Rattle.admission.specs.Code.Objects.{directoryRows}
 use Rattle.changing.specs.ChangeLaws.{stops-first, goes-on}
-use Rattle.naming.specs.Code.Rows.{textRows, directoryRows, foundRows, moveRows, Finds, Moves}
+use Rattle.naming.specs.Code.Rows.{textRows, foundRows, moveRows, Finds, Moves}
 
 -- A text's rows give the number of the text.
 pub text-number : (n : List ℕ) → nameNumber (nameTextOf n) ≡ firstNumber (textRows n)
@@ -38,24 +36,6 @@ text-number n = go (nameTextOf n)
     go Fine = refl
     go Bad = refl
     go Long = refl
-
--- The number by what an object's number names, where a directory is wanted.
-abbrev pub directoryNumber : Object → ℕ
-directoryNumber File = Returned.wrongKind
-directoryNumber Directory = Returned.accepted
-directoryNumber BadNumber = Returned.badNumber
-directoryNumber Free = Returned.noObject
-
-pub directory-number : (v : Volume) (o : ℕ) → directoryNumber (objectAnswer v o) ≡ firstNumber (directoryRows v o)
-unfolding firstNumber objectAnswer
-directory-number v o = go (ltb o (length v)) (entryAt v o)
-  where
-    go : (t : Bool) (e : Entry) → directoryNumber (cond t (objectOf e) BadNumber)
-        ≡ firstNumber (row Returned.badNumber (not t) ∷ row Returned.noObject (not (isUsed e)) ∷ row Returned.wrongKind (not (isDirectory e)) ∷ [])
-    go false e = refl
-    go true free = refl
-    go true (file n p c) = refl
-    go true (directory n p) = refl
 
 -- A name that is to be found in a directory: the directory's number refuses, or the search decides.
 module _ (v : Volume) (d : ℕ) (n : List ℕ) (k : ℕ) (e : k ≡ firstNumber (directoryRows v d)) where

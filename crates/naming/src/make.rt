@@ -9,9 +9,9 @@ ghost use Rattle.session.specs.Edit.{makeRows};
 ghost use Rattle.session.specs.Step.{given, step};
 ghost use Rattle.session.specs.Code.Table.{firstNumber};
 ghost use Rattle.naming.specs.Code.Rows.{makeCall, makeKind};
-use crate::place::directory_refusal;
 use crate::text::text_refusal;
 use admission::lent::admit;
+use admission::object::directory_refusal;
 use changing::change_refusal;
 use entry::field::is_used;
 use issuing::shapes::issue_entry;
@@ -92,7 +92,7 @@ fn make(
     Value::of(ACCEPTED, next)
 }
 
-// "create".
+// Creates a file.
 pub fn create(
     n: usize,
     b: usize,
@@ -122,7 +122,7 @@ pub fn create(
     )
 }
 
-// "make directory".
+// Makes a directory.
 pub fn make_directory(
     n: usize,
     b: usize,

@@ -1,15 +1,11 @@
-// A directory that a call names by its number, and the object that a name leads to in it.
+// The object that a name leads to in a directory that a call names by its number.
 ghost use mathlib.Core.Path.{_≡_};
 ghost use Rattle.search.specs.Stored.{readVolume};
 ghost use Rattle.search.specs.Code.Lent.{Lent};
-ghost use Rattle.session.specs.Code.Table.{firstNumber};
-ghost use Rattle.naming.specs.Code.Rows.{directoryRows, foundRows, Finds};
-use questions::object::Object;
-use questions::object::object_at;
+ghost use Rattle.naming.specs.Code.Rows.{foundRows, Finds};
+use admission::object::directory_refusal;
 use returned::ACCEPTED;
-use returned::BAD_NUMBER;
 use returned::NO_OBJECT;
-use returned::WRONG_KIND;
 use search::search::Found;
 use search::search::search;
 
@@ -17,19 +13,6 @@ use search::search::search;
 pub struct Sought {
     pub refused: usize,
     pub object: usize,
-}
-
-// "7 Bad number", "8 No object", "9 Wrong kind" of a directory.
-pub fn directory_refusal(view: &[u8], n: usize, b: usize, o: usize) -> usize
-    requires { ⌜ Lent n b (now view) ⌝ }
-    ensures { λ r. ⌜ r ≡ firstNumber (directoryRows (readVolume n b (now (view .entry))) o) ⌝ }
-{
-    match object_at(view, n, b, o) {
-        Object::BadNumber => BAD_NUMBER,
-        Object::Free => NO_OBJECT,
-        Object::File => WRONG_KIND,
-        Object::Directory => ACCEPTED,
-    }
 }
 
 // The object that a name leads to: refused as the directory is, and with 8 where there is none.

@@ -1,7 +1,9 @@
 // The calls, each on the parts of the areas that are lent.
-use crate::answer::Answer;
-use crate::arguments::Arguments;
-use crate::command::Command;
+use commands::answer::Answer;
+use commands::arguments::Arguments;
+use commands::command::Command;
+use commands::command::takes_bytes;
+use commands::command::writes_buffer;
 use returned::Code;
 use returned::Status;
 use returned::Value;
@@ -173,28 +175,11 @@ pub fn call(
     first: &mut [u8],
     second: &[u8],
 ) -> Answer {
-    match c {
-        Command::List | Command::Read | Command::Take => call_buffer(
-            c,
-            a,
-            g,
-            server,
-            view,
-            log,
-            first,
-        ),
-        Command::Lookup | Command::Create | Command::Mkdir | Command::Remove | Command::Rename =>
-            call_bytes(c, a, g, server, view, log, first, second),
-        Command::Write | Command::Forder | Command::Record => call_bytes(
-            c,
-            a,
-            g,
-            server,
-            view,
-            log,
-            first,
-            second,
-        ),
-        _ => call_numbers(c, a, g, server, view, log),
+    if writes_buffer(c) {
+        return call_buffer(c, a, g, server, view, log, first);
     }
+    if takes_bytes(c) {
+        return call_bytes(c, a, g, server, view, log, first, second);
+    }
+    call_numbers(c, a, g, server, view, log)
 }

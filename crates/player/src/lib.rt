@@ -1,7 +1,3 @@
-// A line of a call script, played: the command, its arguments, the call on the areas, and the line that it prints.
-pub mod answer;
-pub mod arguments;
+// A line of a call script, played: the call of a command on the areas, and the line with its number.
 pub mod calls;
-pub mod command;
-pub mod commands;
 pub mod play;

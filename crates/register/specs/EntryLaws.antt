@@ -21,15 +21,15 @@ entries-run g (x ∷ xs) st t e p =
     (refl, e, ap (λ (r : Result). r .gives) same, entries-run g xs (next g (x .call) st) (x .after) (ap (λ (r : Result). r .leaves) same) (p .1))
 
 -- what a host has after an accepted mount and any calls: the volume as mounted, a run that shows just what it saw, and the whole claim on it
-pub record Kept (g : Geometry) (s t : Buffers) (xs : List Seen) : Type 0 where
+pub record DemandOnCalls (g : Geometry) (s t : Buffers) (xs : List Seen) : Type 0 where
   pub volume : Volume
   pub mounted : Mounted g s volume
   pub shows : Shows (play g s volume (callsOf xs) .moments) (play g s volume (callsOf xs) .last) t xs
   pub demand : Demand g volume (play g s volume (callsOf xs))
 
 -- From the contract of `wb_mount`, answered with 0, and the contracts of the calls that follow.
-pub entries-kept : (g : Geometry) (s t : Buffers) (xs : List Seen) → given 0 [] [] t ≡ mount g s → Promised g t xs → Kept g s t xs
-entries-kept g s t xs e p =
+pub entries-demand : (g : Geometry) (s t : Buffers) (xs : List Seen) → given 0 [] [] t ≡ mount g s → Promised g t xs → DemandOnCalls g s t xs
+entries-demand g s t xs e p =
     let h = mount-holds g s (ap (λ (r : Result). r .gives .returned) (sym e)) in
     let v = h .0 in
     let m : Mounted g s v = record { accepted = ap (λ (r : Result). r .gives .returned) (sym e); server = h .1 } in

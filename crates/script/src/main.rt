@@ -1,11 +1,11 @@
 // Plays a call script from standard input and prints the answers.
 ghost use Prim.Native.Nat.{_+_, _<_, _≤_};
 ghost use lib.ListN.{length};
-ghost use Rattle.player.specs.Room.{Areas};
+ghost use Rattle.commands.specs.Room.{Areas};
+use commands::commands::State;
+use commands::line::LONGEST;
 use libc::STDIN_FILENO;
 use libc::STDOUT_FILENO;
-use player::commands::State;
-use player::play::LONGEST;
 use player::play::play;
 use player::play::start;
 use report::rest::keep_rest;

@@ -37,13 +37,13 @@ use Rattle.session.specs.Issue.{issues, alters, onFound, displaced, writ
 use Rattle.session.specs.Question.{lookupOf, listOf, statOf, readOf}
 use Rattle.session.specs.Edit.{roomRows, changed, makeRows, makeOf, removeRows, removeOf, renameRows, renameOf, writeRows, writeOf, lengthRows, setLengthOf, forderRows, forderOf}
 use Rattle.log.specs.Sends.{applying}
-use Rattle.session.specs.Send.{ofRecord, pushOf, synced, fsyncOf, noLoss, takeOf, renewOf}
+use Rattle.session.specs.Send.{ofRecord, pushOf, synced, fsyncOf, noLoss, takeOf, renewOf, syncRows}
 use Rattle.session.specs.Effect.{acceptedEffects, issuing}
 use Rattle.session.specs.Step.{answerOf}
 use Rattle.session.specs.RefusalLaws.{numbered, lacks, Decided, passes, refuses, decided, passed, accepted-passes, own-number}
 use Rattle.session.specs.PossibleLaws.{Sound}
 use Rattle.session.specs.EditLaws.{remove-accepted, rename-accepted}
-use Rattle.session.specs.CallLaws.{Synced, whole, partly, broken, synced-is, syncRows, sync-accepted, sync-link, sync-damaged}
+use Rattle.session.specs.CallLaws.{Synced, whole, partly, broken, synced-is, sync-accepted, sync-link, sync-damaged}
 
 -- a refusal as it should be: no result, and the own buffer as before
 pub record Plain (c : Call) (a : Answer) : Type 0 where
@@ -88,17 +88,17 @@ plain-copied p o f own s BadRange n = record { results = refl; own = refl }
 plain-sync : (p o k : ℕ) (x : Model) → (fsyncOf p o k x .returned ≡ 0 → ⊥) → (fsyncOf p o k x .returned ≡ Returned.linkLost → ⊥) → (fsyncOf p o k x .returned ≡ Returned.damaged → ⊥)
     → Plain (fsync p o k) (fsyncOf p o k x)
 unfolding fsyncOf
-plain-sync p o k x n l d = go (decided (fsync p o k) (syncRows p o x) (synced k need (x .server)))
+plain-sync p o k x n l d = go (decided (fsync p o k) (syncRows p o (x .view) (x .log)) (synced k need (x .server)))
   where
     need : List Record
     need = needed o (waitingOf (x .log .slots))
 
-    by : unless (fsync p o k) (syncRows p o x) (synced k need (x .server)) ≡ synced k need (x .server) → Synced k need (x .server) (synced k need (x .server)) → Plain (fsync p o k) (unless (fsync p o k) (syncRows p o x) (synced k need (x .server)))
+    by : unless (fsync p o k) (syncRows p o (x .view) (x .log)) (synced k need (x .server)) ≡ synced k need (x .server) → Synced k need (x .server) (synced k need (x .server)) → Plain (fsync p o k) (unless (fsync p o k) (syncRows p o (x .view) (x .log)) (synced k need (x .server)))
     by e (whole le all is) = absurd (n (ap (λ (b : Answer). b .returned) (e ∙ is)))
     by e (partly lt all is) = absurd (l (ap (λ (b : Answer). b .returned) (e ∙ is)))
     by e (broken lt is) = absurd (d (ap (λ (b : Answer). b .returned) (e ∙ is)))
 
-    go : Decided (fsync p o k) (syncRows p o x) (synced k need (x .server)) → Plain (fsync p o k) (unless (fsync p o k) (syncRows p o x) (synced k need (x .server)))
+    go : Decided (fsync p o k) (syncRows p o (x .view) (x .log)) (synced k need (x .server)) → Plain (fsync p o k) (unless (fsync p o k) (syncRows p o (x .view) (x .log)) (synced k need (x .server)))
     go (passes z e) = by e (synced-is k need (x .server))
     go (refuses z e) = subst (Plain (fsync p o k)) (sym e) (record { results = refl; own = refl })
 

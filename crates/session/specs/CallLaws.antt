@@ -24,7 +24,7 @@ use Rattle.session.specs.Model.{Model, unless, badProgram, isMarked, out
 use Rattle.session.specs.Issue.{onFound, displaced}
 use Rattle.session.specs.Question.{lookupOf, listOf, statOf, readOf}
 use Rattle.log.specs.Sends.{applying}
-use Rattle.session.specs.Send.{ofRecord, pushOf, synced, fsyncOf, noLoss, takeOf, renewOf}
+use Rattle.session.specs.Send.{ofRecord, pushOf, synced, syncRows, fsyncOf, noLoss, takeOf, renewOf}
 use Rattle.session.specs.Effect.{note, discard, perform, sends, issuing, acceptedEffects, brokenSync, refusedEffects, effectsOf}
 use Rattle.session.specs.Step.{answerOf, effectsIn, leavesOf}
 use Rattle.session.specs.RefusalLaws.{numbered, passed, accepted-passes, own-number}
@@ -87,27 +87,23 @@ pub record Syncs (p o k : ℕ) (x : Model) : Type 0 where
   pub program : p < 32
   pub answer : fsyncOf p o k x ≡ synced k (needed o (waitingOf (x .log .slots))) (x .server)
 
--- the table of fsync
-abbrev pub syncRows : ℕ → ℕ → Model → List Row
-syncRows p o x = badProgram p ∷ isMarked (x .log) p ∷ row Returned.badNumber (outside (x .view) o) ∷ row Returned.noObject (isFree (x .view) o) ∷ []
-
 pub sync-accepted : (p o k : ℕ) (x : Model) → fsyncOf p o k x .returned ≡ 0 → Syncs p o k x
 unfolding fsyncOf
 sync-accepted p o k x e =
-    let a = accepted-passes (fsync p o k) (syncRows p o x) (synced k (needed o (waitingOf (x .log .slots))) (x .server)) e in
-    record { program = ltb-true p 32 (not-false _ (passed (syncRows p o x) refl (a .0) .0)); answer = a .1 }
+    let a = accepted-passes (fsync p o k) (syncRows p o (x .view) (x .log)) (synced k (needed o (waitingOf (x .log .slots))) (x .server)) e in
+    record { program = ltb-true p 32 (not-false _ (passed (syncRows p o (x .view) (x .log)) refl (a .0) .0)); answer = a .1 }
 
 pub sync-link : (p o k : ℕ) (x : Model) → fsyncOf p o k x .returned ≡ Returned.linkLost → Syncs p o k x
 unfolding fsyncOf
 sync-link p o k x e =
-    let a = own-number Returned.linkLost (fsync p o k) (syncRows p o x) (synced k (needed o (waitingOf (x .log .slots))) (x .server)) refl refl (λ z. omega arith) e in
-    record { program = ltb-true p 32 (not-false _ (passed (syncRows p o x) refl (a .0) .0)); answer = a .1 }
+    let a = own-number Returned.linkLost (fsync p o k) (syncRows p o (x .view) (x .log)) (synced k (needed o (waitingOf (x .log .slots))) (x .server)) refl refl (λ z. omega arith) e in
+    record { program = ltb-true p 32 (not-false _ (passed (syncRows p o (x .view) (x .log)) refl (a .0) .0)); answer = a .1 }
 
 pub sync-damaged : (p o k : ℕ) (x : Model) → fsyncOf p o k x .returned ≡ Returned.damaged → Syncs p o k x
 unfolding fsyncOf
 sync-damaged p o k x e =
-    let a = own-number Returned.damaged (fsync p o k) (syncRows p o x) (synced k (needed o (waitingOf (x .log .slots))) (x .server)) refl refl (λ z. omega arith) e in
-    record { program = ltb-true p 32 (not-false _ (passed (syncRows p o x) refl (a .0) .0)); answer = a .1 }
+    let a = own-number Returned.damaged (fsync p o k) (syncRows p o (x .view) (x .log)) (synced k (needed o (waitingOf (x .log .slots))) (x .server)) refl refl (λ z. omega arith) e in
+    record { program = ltb-true p 32 (not-false _ (passed (syncRows p o (x .view) (x .log)) refl (a .0) .0)); answer = a .1 }
 
 -- no loss to take is refused
 loss-there : (f : Option Record) → ofRecord true f (λ r. false) ≡ false → (r : Record) × (f ≡ some r)

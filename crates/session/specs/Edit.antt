@@ -15,7 +15,7 @@ use Rattle.log.specs.Order.{any}
 use Rattle.session.specs.Call.{Geometry, Call, remove, rename, write, setLength, forder, Answer, answer}
 use Rattle.session.specs.Issue.{displaced, issues}
 use Rattle.session.specs.Refusal.{Row, row}
-use Rattle.session.specs.Model.{Model, unless, programRows, isBad, isLong, outside, isFree, roomFor}
+use Rattle.session.specs.Model.{Model, unless, programRows, isBad, isLong, outside, isFree, objectRows, roomFor}
 
 -- room for what the call issues: "m slots used", "next number is 4,294,967,295"
 abbrev pub roomRows : Geometry → Call → Model → List Row
@@ -88,8 +88,7 @@ badRange b len f n =
 
 -- a file by its number: 7, 8, 9
 abbrev pub fileRows : Volume → ℕ → List Row → List Row
-fileRows v o l =
-    row Returned.badNumber (outside v o) ∷ row Returned.noObject (isFree v o) ∷ row Returned.wrongKind (not (isFile (entryAt v o))) ∷ l
+fileRows v o l = objectRows v o ++ (row Returned.wrongKind (not (isFile (entryAt v o))) ∷ l)
 
 -- "Write lies in one block: wholly inside the length (overwrite) or beginning at the length (append)."
 abbrev pub writeRows : ℕ → Volume → ℕ → ℕ → List ℕ → List Row

@@ -62,6 +62,10 @@ outside v o = not (ltb o (length v))
 abbrev pub isFree : Volume → ℕ → Bool
 isFree v o = not (isUsed (entryAt v o))
 
+-- what is asked of an object by its number: 7, 8
+abbrev pub objectRows : Volume → ℕ → List Row
+objectRows v o = row Returned.badNumber (outside v o) ∷ row Returned.noObject (isFree v o) ∷ []
+
 -- "m slots used", "next number is 4,294,967,295": too few slots or numbers are left for so many operations
 abbrev pub noSlots : Geometry → Log → ℕ → Row
 noSlots g l k = row Returned.logFull (ltb (g .capacity) (length (l .slots) + k))

@@ -1,6 +1,6 @@
 -- Document 01, "Calls": what push, fsync, cut, take and renew answer.
 use Prim.Native.Nat.{ℕ}
-use mathlib.Core.List.{List, [], _∷_}
+use mathlib.Core.List.{List, [], _∷_, _++_}
 use mathlib.Core.Bool.{Bool, true, false, not, cond}
 use mathlib.Core.Option.{Option, none, some}
 use lib.ListN.{length}
@@ -12,12 +12,13 @@ use Rattle.records.specs.Fields.{encode}
 use Rattle.buffer.specs.Patch.{patch}
 use Rattle.search.specs.Volume.{Volume}
 use Rattle.applies.specs.Apply.{applies}
+use Rattle.log.specs.Slot.{Log}
 use Rattle.log.specs.Order.{needed, preceded}
 use Rattle.log.specs.Change.{waitingOf, waitingAt, earliest, isLossOf}
 use Rattle.log.specs.Sends.{applying}
 use Rattle.session.specs.Call.{push, fsync, take, renew, Answer, answer}
-use Rattle.session.specs.Refusal.{row}
-use Rattle.session.specs.Model.{Model, unless, badProgram, isMarked, outside, isFree}
+use Rattle.session.specs.Refusal.{Row, row}
+use Rattle.session.specs.Model.{Model, unless, badProgram, programRows, objectRows}
 
 -- what is asked of a record where one was found; where none was, given
 abbrev pub ofRecord : Bool → Option Record → (Record → Bool) → Bool
@@ -40,10 +41,14 @@ synced k need v =
     cond (ltb (applying first v) (length first)) (answer Returned.damaged (applying first v ∷ []) [])
     (cond (leb (length need) k) (answer Returned.accepted (length need ∷ []) []) (answer Returned.linkLost (k ∷ []) []))
 
+-- what is asked before its sends: 3, 4, 7, 8
+abbrev pub syncRows : ℕ → ℕ → Volume → Log → List Row
+syncRows p o v l = programRows l p ++ objectRows v o
+
 unfoldable pub fsyncOf : ℕ → ℕ → ℕ → Model → Answer
 fsyncOf p o k x =
     unless (fsync p o k)
-    (badProgram p ∷ isMarked (x .log) p ∷ row Returned.badNumber (outside (x .view) o) ∷ row Returned.noObject (isFree (x .view) o) ∷ [])
+    (syncRows p o (x .view) (x .log))
     (synced k (needed o (waitingOf (x .log .slots))) (x .server))
 
 -- the bytes of a loss

@@ -1,5 +1,3 @@
-pub mod Code
 pub mod CutLaws
 pub mod PushLaws
-pub mod RowLaws
 pub mod SyncLaws

@@ -27,7 +27,7 @@ use Rattle.fsync.specs.Code.Synced.{neededIn, syncedOf, SyncedBy}
 use Rattle.session.specs.Call.{geometry, buffers, fsync, Answer, answer, refusal}
 use Rattle.session.specs.Refusal.{Row}
 use Rattle.session.specs.Model.{Model, withServer, withLog, unless}
-use Rattle.session.specs.Send.{synced, fsyncOf}
+use Rattle.session.specs.Send.{synced, fsyncOf, syncRows}
 use Rattle.session.specs.Effect.{Effect, note, discard, perform, performAll, sends, effectsOf, brokenSync}
 use Rattle.session.specs.Step.{answerOf, given, encodeModel, step, turnedDown}
 use Rattle.session.specs.Code.Table.{firstNumber}
@@ -38,7 +38,6 @@ use Rattle.session.specs.PerformLaws.{sends-performed}
 use Rattle.session.specs.ReadyLaws.{Ready, needed-ready, ready-take}
 use Rattle.admission.specs.Code.Admitted.{modelIn, Admitted}
 use Rattle.admission.specs.TurnLaws.{refused, answered}
-use Rattle.transfer.specs.Code.Rows.{syncRows}
 
 -- effects one behind the other
 performed-behind : (es fs : List Effect) (x : Model) → performAll (es ++ fs) x ≡ performAll fs (performAll es x)

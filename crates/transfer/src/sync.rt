@@ -9,32 +9,16 @@ ghost use Rattle.session.specs.Call.{geometry, buffers};
 ghost use Rattle.session.specs.Call;
 ghost use Rattle.session.specs.Step.{given, step};
 ghost use Rattle.session.specs.Code.Table.{firstNumber};
-ghost use Rattle.transfer.specs.Code.Rows.{objectRows, syncRows};
+ghost use Rattle.session.specs.Send.{syncRows};
 use admission::lent::admit;
+use admission::object::object_refusal;
 use admission::program::program_refusal;
 use fsync::Synced;
-use questions::object::Object;
-use questions::object::object_at;
 use returned::ACCEPTED;
-use returned::BAD_NUMBER;
 use returned::DAMAGED;
 use returned::LINK_LOST;
-use returned::NO_OBJECT;
 use returned::Value;
 use update::format::copy_volume;
-
-// "7 Bad number: object n or more", "8 No object: entry free".
-fn object_refusal(view: &[u8], n: usize, b: usize, object: usize) -> usize
-    requires { ⌜ Lent n b (now view) ⌝ }
-    ensures { λ r. ⌜ r ≡ firstNumber (objectRows (readVolume n b (now (view .entry))) object) ⌝ }
-{
-    match object_at(view, n, b, object) {
-        Object::BadNumber => BAD_NUMBER,
-        Object::Free => NO_OBJECT,
-        Object::File => ACCEPTED,
-        Object::Directory => ACCEPTED,
-    }
-}
 
 // The refusal of an fsync before its sends; 0 where there is none.
 fn sync_refusal(

@@ -17,6 +17,7 @@ use returned::Code;
 use returned::Status;
 use returned::Value;
 
+// "Format makes a server volume with only a root."
 #[no_mangle]
 pub extern "C" fn wb_format(n: u64, b: u64, m: u64, server: &mut [u8]) -> Code
     ensures returned { λ r. ⌜ r .returned ≡ format (geometry n b m) (now (server .entry)) ⌝ }
@@ -25,6 +26,7 @@ pub extern "C" fn wb_format(n: u64, b: u64, m: u64, server: &mut [u8]) -> Code
     mounting::format(n as usize, b as usize, m as usize, server)
 }
 
+// "Mount checks the server volume, copies it to the view and begins an empty log".
 #[no_mangle]
 pub extern "C" fn wb_mount(
     n: u64,

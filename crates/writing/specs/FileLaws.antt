@@ -3,16 +3,13 @@ use Prim.Native.Nat.{ℕ, _+_, _*_, _-_, _%_, _≤_, _<_}
 use native.Mathlib.Omega.{arith}
 use mathlib.Core.Path.{_≡_, refl, sym, ap, _∙_}
 use mathlib.Core.List.{List, [], _∷_}
-use mathlib.Core.Bool.{Bool, true, false, not, _&&_, _||_, cond}
+use mathlib.Core.Bool.{Bool, true, false, not, _&&_, _||_}
 use lib.ListN.{length}
 use lib.Dec.{ltb, eqb}
 use borrow.Author.Tests.{ltb-true, ltb-false, lt-ltb, le-ltb, eq-eqb, ne-eqb}
 use Rattle.returned.specs.Returned
-use Rattle.entry.specs.Entry.{Entry, free, file, directory, isUsed, isFile}
+use Rattle.entry.specs.Entry.{isUsed, isFile}
 use Rattle.search.specs.Volume.{Volume, entryAt}
-use Rattle.questions.specs.declared.object.Object.{Object}
-use Rattle.questions.specs.declared.object.Object.the-variants.{File, Directory, BadNumber, Free}
-use Rattle.questions.specs.Answer.{objectOf, objectAnswer}
 use Rattle.session.specs.Refusal.{Row, row}
 use Rattle.session.specs.Edit.{badRange, fileRows}
 use Rattle.session.specs.Code.Table.{firstNumber}
@@ -25,26 +22,7 @@ or-right false b e = e
 pub or-left : (a b : Bool) → a ≡ true → a || b ≡ true
 or-left a b e = rw e
 
--- the number for what an object's number names, where a file is asked for
-abbrev pub fileNumber : Object → ℕ
-fileNumber File = Returned.accepted
-fileNumber Directory = Returned.wrongKind
-fileNumber BadNumber = Returned.badNumber
-fileNumber Free = Returned.noObject
-
 module _ (v : Volume) (o : ℕ) where
-  -- What the object's number names decides.
-  pub file-number : (x : Object) → x ≡ objectAnswer v o → fileNumber x ≡ firstNumber (fileRows v o [])
-  unfolding firstNumber objectAnswer
-  file-number x h = ap fileNumber h ∙ go (ltb o (length v)) (entryAt v o)
-    where
-      go : (t : Bool) (e : Entry) → fileNumber (cond t (objectOf e) BadNumber)
-          ≡ firstNumber (row Returned.badNumber (not t) ∷ row Returned.noObject (not (isUsed e)) ∷ row Returned.wrongKind (not (isFile e)) ∷ [])
-      go false e = refl
-      go true free = refl
-      go true (file a p c) = refl
-      go true (directory a p) = refl
-
   -- An object that is not refused is below n.
   pub file-below : (l : List Row) → 0 ≡ firstNumber (fileRows v o l) → o < length v
   unfolding firstNumber

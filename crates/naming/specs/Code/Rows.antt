@@ -34,12 +34,7 @@ makeKind false = CreateFile
 abbrev pub textRows : List ℕ → List Row
 textRows n = row Returned.badName (isBad (nameTextOf n)) ∷ row Returned.longName (isLong (nameTextOf n)) ∷ []
 
--- "7 Bad number", "8 No object", "9 Wrong kind" of a directory by its number
-abbrev pub directoryRows : Volume → ℕ → List Row
-directoryRows v d =
-    row Returned.badNumber (outside v d) ∷ row Returned.noObject (isFree v d) ∷ row Returned.wrongKind (not (isDirectory (entryAt v d))) ∷ []
-
--- the same, with a name that is to be found in it
+-- "7 Bad number", "8 No object", "9 Wrong kind" of a directory by its number, with a name that is to be found in it
 abbrev pub foundRows : Volume → ℕ → List ℕ → List Row
 foundRows v d n =
     row Returned.badNumber (outside v d)

@@ -2,9 +2,8 @@
 use mathlib.Core.Path.{refl, sym, _∙_}
 use Rattle.search.specs.Stored.{readVolume}
 use Rattle.log.specs.Stored.{readLog}
-use Rattle.session.specs.Model.{programRows}
+use Rattle.session.specs.Model.{programRows, objectRows}
 use Rattle.session.specs.TableLaws.{first-left, first-right}
-use Rattle.transfer.specs.Code.Rows.{objectRows}
 use borrow.Author.Needs.{needs}
 use Rattle.transfer.proofs.sync.sync_refusal.Statement.{statement}
 use Rattle.transfer.proofs.sync.sync_refusal.Tie as tie
