@@ -53,26 +53,26 @@ own-first k rows rest more h e f = go (eqb k 0) refl
     go false z = stops-first rows more k e (eqb-false k 0 z)
 
 -- The number of a change, by which of the three gives it.
-module _ (g : Geometry) (l : Log) (p own : ℕ) (i : ℕ) (e : i ≡ firstNumber (programRows l p)) where
-  pub by-program : (i ≡ 0 → ⊥) → i ≡ changeNumber g l p own
+module _ (g : Geometry) (l : Log) (p own count : ℕ) (i : ℕ) (e : i ≡ firstNumber (programRows l p)) where
+  pub by-program : (i ≡ 0 → ⊥) → i ≡ changeNumber g l p own count
   unfolding changeNumber
-  by-program z = stops-first (programRows l p) (ownRow own ∷ roomFor g l 1) i e z
+  by-program z = stops-first (programRows l p) (ownRow own ∷ roomFor g l count) i e z
 
   module _ (z : i ≡ 0) where
-    pub by-own : (own ≡ 0 → ⊥) → own ≡ changeNumber g l p own
+    pub by-own : (own ≡ 0 → ⊥) → own ≡ changeNumber g l p own count
     unfolding changeNumber firstNumber
-    by-own y = goes-on 0 (programRows l p) (ownRow own ∷ roomFor g l 1) refl i own e z (rw (ne-eqb own 0 y))
+    by-own y = goes-on 0 (programRows l p) (ownRow own ∷ roomFor g l count) refl i own e z (rw (ne-eqb own 0 y))
 
-    pub by-room : own ≡ 0 → (k : ℕ) → k ≡ firstNumber (roomFor g l 1) → k ≡ changeNumber g l p own
+    pub by-room : own ≡ 0 → (k : ℕ) → k ≡ firstNumber (roomFor g l count) → k ≡ changeNumber g l p own count
     unfolding changeNumber firstNumber
-    by-room y k f = goes-on 0 (programRows l p) (ownRow own ∷ roomFor g l 1) refl i k e z (f ∙ rw (eq-eqb own 0 y))
+    by-room y k f = goes-on 0 (programRows l p) (ownRow own ∷ roomFor g l count) refl i k e z (f ∙ rw (eq-eqb own 0 y))
 
 -- With 0 the own table gave 0.
-own-passes : (g : Geometry) (l : Log) (p own : ℕ) → changeNumber g l p own ≡ 0 → own ≡ 0
+own-passes : (g : Geometry) (l : Log) (p own count : ℕ) → changeNumber g l p own count ≡ 0 → own ≡ 0
 unfolding changeNumber firstNumber
-own-passes g l p own h = go (not (ltb p 32)) (holds (l .marks) p) (eqb own 0) refl h
+own-passes g l p own count h = go (not (ltb p 32)) (holds (l .marks) p) (eqb own 0) refl h
   where
-    go : (a c t : Bool) → eqb own 0 ≡ t → cond a 3 (cond c 4 (cond (not t) own (firstNumber (roomFor g l 1)))) ≡ 0 → own ≡ 0
+    go : (a c t : Bool) → eqb own 0 ≡ t → cond a 3 (cond c 4 (cond (not t) own (firstNumber (roomFor g l count)))) ≡ 0 → own ≡ 0
     go true c t q e = absurd (omega arith)
     go false true t q e = absurd (omega arith)
     go false false true q e = eqb-true own 0 q
@@ -85,20 +85,20 @@ lent-refuses g c s plain k e z r q =
     (λ i. record { gives = answer (q i .returned) (q i .value ∷ []) []; leaves = s })
     ∙ (λ i. record { gives = sym (plain k) i; leaves = s }) ∙ sym (not-admitted g c s k (sym e) z)
 
-module _ {n b m p : ℕ} {s v l : List ℕ} {c : Call} {own : ℕ} (ch : Change n b m p s v l c own) where
+module _ {n b m p : ℕ} {s v l : List ℕ} {c : Call} {own count : ℕ} (ch : Change n b m p s v l c own count) where
   -- The code's number is that of the whole table.
-  table-number : changeNumber (geometry n b m) (readLog m l) p own
+  table-number : changeNumber (geometry n b m) (readLog m l) p own count
       ≡ firstNumber (programRows (readLog m l) p ++ (ch .rows ++ roomRows (geometry n b m) c (modelIn n b m s v l)))
   unfolding changeNumber
   table-number =
       let g = geometry n b m in
       let x = modelIn n b m s v l in
-      over-program (readLog m l) p (ownRow own ∷ roomFor g (readLog m l) 1) (ch .rows ++ roomRows g c x)
-      (own-first own (ch .rows) (roomFor g (readLog m l) 1) (roomRows g c x) (rising-left 4 (ch .rows) (roomRows g c x) (ch .rise)) (ch .number)
-      (λ z. ap (λ (k : ℕ). firstNumber (roomFor g (readLog m l) k)) (sym (ch .one z))))
+      over-program (readLog m l) p (ownRow own ∷ roomFor g (readLog m l) count) (ch .rows ++ roomRows g c x)
+      (own-first own (ch .rows) (roomFor g (readLog m l) count) (roomRows g c x) (rising-left 4 (ch .rows) (roomRows g c x) (ch .rise)) (ch .number)
+      (λ z. ap (λ (k : ℕ). firstNumber (roomFor g (readLog m l) k)) (sym (ch .many z))))
 
   -- Refused: nothing changes.
-  pub change-refuses : (k : ℕ) → k ≡ changeNumber (geometry n b m) (readLog m l) p own → (k ≡ 0 → ⊥) → (r : Value) → r ≡ value k 0
+  pub change-refuses : (k : ℕ) → k ≡ changeNumber (geometry n b m) (readLog m l) p own count → (k ≡ 0 → ⊥) → (r : Value) → r ≡ value k 0
       → given (r .returned) (r .value ∷ []) [] (buffers s v l) ≡ step (geometry n b m) c (buffers s v l)
   change-refuses k e z r q =
       (λ i. record { gives = answer (q i .returned) (q i .value ∷ []) []; leaves = buffers s v l })
@@ -107,11 +107,11 @@ module _ {n b m p : ℕ} {s v l : List ℕ} {c : Call} {own : ℕ} (ch : Change 
       (answer 0 (readLog m l .next ∷ []) []) (ch .is) (ch .rise) k (e ∙ table-number) z (ch .quiet k))
 
   -- Accepted: the answer is the next sequence number.
-  pub change-passes : (k : ℕ) → k ≡ changeNumber (geometry n b m) (readLog m l) p own → k ≡ 0
+  pub change-passes : (k : ℕ) → k ≡ changeNumber (geometry n b m) (readLog m l) p own count → k ≡ 0
       → 0 ≡ firstNumber (programRows (readLog m l) p ++ (ch .rows ++ roomRows (geometry n b m) c (modelIn n b m s v l)))
   change-passes k e z = sym z ∙ e ∙ table-number
 
-  pub change-accepted : (k : ℕ) → k ≡ changeNumber (geometry n b m) (readLog m l) p own → k ≡ 0
+  pub change-accepted : (k : ℕ) → k ≡ changeNumber (geometry n b m) (readLog m l) p own count → k ≡ 0
       → answerOf (geometry n b m) c (modelIn n b m s v l) .returned ≡ 0
   change-accepted k e z =
       ap (λ (a : Answer). a .returned)
@@ -119,5 +119,5 @@ module _ {n b m p : ℕ} {s v l : List ℕ} {c : Call} {own : ℕ} (ch : Change 
       (answer 0 (readLog m l .next ∷ []) []) (ch .is) (ch .rise) (change-passes k e z))
 
   -- Its own rows let it pass.
-  pub change-own : (k : ℕ) → k ≡ changeNumber (geometry n b m) (readLog m l) p own → k ≡ 0 → own ≡ 0
-  change-own k e z = own-passes (geometry n b m) (readLog m l) p own (sym e ∙ z)
+  pub change-own : (k : ℕ) → k ≡ changeNumber (geometry n b m) (readLog m l) p own count → k ≡ 0 → own ≡ 0
+  change-own k e z = own-passes (geometry n b m) (readLog m l) p own count (sym e ∙ z)

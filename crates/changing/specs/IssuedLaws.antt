@@ -41,22 +41,30 @@ module _ {n b m p : ℕ} {s v l : List ℕ} (h : Admitted n b m s v l) {o : Oper
         ready = f .0;
       })
 
--- The accepted case of every change that issues one operation.
-pub issued-outcome : {n b m p : ℕ} {s v l : List ℕ} {c : Call} {own : ℕ} (ch : Change n b m p s v l c own) (k : ℕ)
-    → k ≡ changeNumber (geometry n b m) (readLog m l) p own → k ≡ 0
-    → (o : Operation) → issues (readVolume n b v) c ≡ o ∷ [] → (d : Record) → d ≡ recordOf (readLog m l .next) p o
-    → (x : ℕ) (log view : List ℕ) → Issued n b m x log view (readVolume n b v) (readLog m l) d → (r : Value) → r ≡ value 0 x
+-- The accepted case of every change: the buffers store what issuing its operations leaves.
+pub accepted-outcome : {n b m p : ℕ} {s v l : List ℕ} {c : Call} {own count : ℕ} (ch : Change n b m p s v l c own count) (k : ℕ)
+    → k ≡ changeNumber (geometry n b m) (readLog m l) p own count → k ≡ 0 → (os : List Operation) → issues (readVolume n b v) c ≡ os
+    → (log view : List ℕ) → encodeModel (geometry n b m) (performAll (issuing p os) (modelIn n b m s v l)) ≡ buffers s view log
+    → (r : Value) → r ≡ value 0 (readLog m l .next)
     → given (r .returned) (r .value ∷ []) [] (buffers s view log) ≡ step (geometry n b m) c (buffers s v l)
-issued-outcome {n} {b} {m} {p} {s} {v} {l} {c} ch k e z o one d q x log view u r w =
+accepted-outcome {n} {b} {m} {p} {s} {v} {l} {c} ch k e z os all log view left r w =
     let g = geometry n b m in
     let y = modelIn n b m s v l in
     let a = answer 0 (readLog m l .next ∷ []) [] in
-    let es = ch .effects ∙ ap (issuing p) one in
-    let t = subst (Issued n b m x log view (readVolume n b v) (readLog m l)) q u in
-    let left : encodeModel g (performAll (issuing p (o ∷ [])) y) ≡ buffers s view log =
-    ap (encodeModel g) (issuing-one p o y) ∙ (λ j. record { server = ch .held .server .stored j; view = sym (t .view) j; log = sym (t .log) j }) in
-    (λ j. record { gives = answer (w j .returned) (w j .value ∷ []) []; leaves = buffers s view log })
-    ∙ (λ j. record { gives = answer 0 (u .gives j ∷ []) []; leaves = sym left j })
+    (λ j. record { gives = answer (w j .returned) (w j .value ∷ []) []; leaves = sym left j })
     ∙ sym
     (accepted n b m s v l (ch .held) c (programRows (readLog m l) p ++ (ch .rows ++ roomRows g c y)) a (ch .is) (ch .rise) (change-passes ch k e z) refl
-    ∙ ap (λ (f : List Effect). record { gives = a; leaves = encodeModel g (performAll f y) }) es)
+    ∙ ap (λ (f : List Effect). record { gives = a; leaves = encodeModel g (performAll f y) }) (ch .effects ∙ ap (issuing p) all))
+
+-- Where it issues one operation, what issuing that one leaves.
+pub issued-outcome : {n b m p : ℕ} {s v l : List ℕ} {c : Call} {own count : ℕ} (ch : Change n b m p s v l c own count) (k : ℕ)
+    → k ≡ changeNumber (geometry n b m) (readLog m l) p own count → k ≡ 0
+    → (o : Operation) → issues (readVolume n b v) c ≡ o ∷ [] → (d : Record) → d ≡ recordOf (readLog m l .next) p o
+    → (x : ℕ) (log view : List ℕ) → Issued n b m x log view (readVolume n b v) (readLog m l) d → (r : Value) → r ≡ value 0 x
+    → given (r .returned) (r .value ∷ []) [] (buffers s view log) ≡ step (geometry n b m) c (buffers s v l)
+issued-outcome {n} {b} {m} {p} {s} {v} {l} ch k e z o one d q x log view u r w =
+    let t = subst (Issued n b m x log view (readVolume n b v) (readLog m l)) q u in
+    let left : encodeModel (geometry n b m) (performAll (issuing p (o ∷ [])) (modelIn n b m s v l)) ≡ buffers s view log =
+    ap (encodeModel (geometry n b m)) (issuing-one p o (modelIn n b m s v l))
+    ∙ (λ j. record { server = ch .held .server .stored j; view = sym (t .view) j; log = sym (t .log) j }) in
+    accepted-outcome ch k e z (o ∷ []) one log view left r (w ∙ ap (value 0) (u .gives))

@@ -1,6 +1,7 @@
 // What all changes and forder share (document 01, "Calls" and "Returned numbers"): a change is refused for its program (3 and 4), by
 // its own table, or for want of room (13 and 14).
 ghost use mathlib.Core.Path.{_≡_};
+ghost use Prim.Native.Nat.{_≤_};
 ghost use Rattle.log.specs.Stored.{readLog};
 ghost use Rattle.log.specs.Code.Slots.{Logged};
 ghost use Rattle.session.specs.Call.{geometry};
@@ -9,10 +10,11 @@ use admission::program::program_refusal;
 use admission::room::room_refusal;
 use returned::ACCEPTED;
 
-// The refusal of a change whose own table gives a number; 0 where it is accepted.
-pub fn change_refusal(log: &[u8], n: usize, b: usize, m: usize, program: usize, own: usize) -> usize
+// The refusal of a change that issues so many operations and whose own table gives a number; 0 where it is accepted.
+pub fn change_refusal(log: &[u8], n: usize, b: usize, m: usize, program: usize, own: usize, count: usize) -> usize
     requires { ⌜ Logged n b m (now log) ⌝ }
-    ensures { λ r. ⌜ r ≡ changeNumber (geometry n b m) (readLog m (now (log .entry))) program own ⌝ }
+    requires { ⌜ count ≤ 1024 ⌝ }
+    ensures { λ r. ⌜ r ≡ changeNumber (geometry n b m) (readLog m (now (log .entry))) program own count ⌝ }
 {
     let refused = program_refusal(log, m, program);
     if refused != ACCEPTED {
@@ -21,5 +23,5 @@ pub fn change_refusal(log: &[u8], n: usize, b: usize, m: usize, program: usize, 
     if own != ACCEPTED {
         return own;
     }
-    room_refusal(log, n, b, m, 1)
+    room_refusal(log, n, b, m, count)
 }

@@ -40,12 +40,12 @@ make-issues false v p d name o = refl
 
 module _ (n b m p : ℕ) (s v l : List ℕ) (h : Admitted n b m s v l) where
   -- Create and make directory.
-  pub make-change : (dir : Bool) (d : ℕ) (name : List ℕ) (o own : ℕ) → own ≡ firstNumber (makeRows (readVolume n b v) d name o) → Change n b m p s v l (makeCall dir p d name o) own
+  pub make-change : (dir : Bool) (d : ℕ) (name : List ℕ) (o own : ℕ) → own ≡ firstNumber (makeRows (readVolume n b v) d name o) → Change n b m p s v l (makeCall dir p d name o) own 1
   unfolding answerOf makeOf
   make-change true d name o own e =
-      record { held = h; rows = makeRows (readVolume n b v) d name o; is = refl; rise = refl; number = e; one = λ z. refl; plain = λ k. refl; quiet = λ k. refl; effects = refl }
+      record { held = h; rows = makeRows (readVolume n b v) d name o; is = refl; rise = refl; number = e; many = λ z. refl; plain = λ k. refl; quiet = λ k. refl; effects = refl }
   make-change false d name o own e =
-      record { held = h; rows = makeRows (readVolume n b v) d name o; is = refl; rise = refl; number = e; one = λ z. refl; plain = λ k. refl; quiet = λ k. refl; effects = refl }
+      record { held = h; rows = makeRows (readVolume n b v) d name o; is = refl; rise = refl; number = e; many = λ z. refl; plain = λ k. refl; quiet = λ k. refl; effects = refl }
 
   pub make-issuing : (dir : Bool) (d : ℕ) (name : List ℕ) (o : ℕ) → answerOf (geometry n b m) (makeCall dir p d name o) (modelIn n b m s v l) .returned ≡ 0
       → Issuing (geometry n b m) (modelIn n b m s v l) p (makeOperation dir o d name ∷ [])
@@ -54,7 +54,7 @@ module _ (n b m p : ℕ) (s v l : List ℕ) (h : Admitted n b m s v l) where
   make-issuing false d name o e = create-accepted (geometry n b m) (modelIn n b m s v l) (h .holds .sound) p d name o e
 
   -- Remove.
-  pub remove-change : (d : ℕ) (name : List ℕ) (own o : ℕ) → Finds (readVolume n b v) d name (removeRows (readVolume n b v) d name) own o → Change n b m p s v l (Call.remove p d name) own
+  pub remove-change : (d : ℕ) (name : List ℕ) (own o : ℕ) → Finds (readVolume n b v) d name (removeRows (readVolume n b v) d name) own o → Change n b m p s v l (Call.remove p d name) own 1
   unfolding answerOf removeOf
   remove-change d name own o f =
       record {
@@ -63,7 +63,7 @@ module _ (n b m p : ℕ) (s v l : List ℕ) (h : Admitted n b m s v l) where
         is = refl;
         rise = refl;
         number = f .number;
-        one = λ z. ap (λ (w : Option ℕ). length (onFound w (λ i. Operation.remove i d name))) (f .found z);
+        many = λ z. ap (λ (w : Option ℕ). length (onFound w (λ i. Operation.remove i d name))) (f .found z);
         plain = λ k. refl;
         quiet = λ k. refl;
         effects = refl;
@@ -83,7 +83,7 @@ module _ (n b m p : ℕ) (s v l : List ℕ) (h : Admitted n b m s v l) where
 
   -- Rename.
   pub rename-change : (d : ℕ) (name : List ℕ) (e : ℕ) (second : List ℕ) (own o t : ℕ) → Moves (readVolume n b v) d name e second own o t
-      → Change n b m p s v l (Call.rename p d name e second) own
+      → Change n b m p s v l (Call.rename p d name e second) own 1
   unfolding answerOf renameOf
   rename-change d name e second own o t f =
       record {
@@ -92,7 +92,7 @@ module _ (n b m p : ℕ) (s v l : List ℕ) (h : Admitted n b m s v l) where
         is = refl;
         rise = refl;
         number = f .number;
-        one = λ z. ap (λ (w : Option ℕ). length (onFound w (λ i. Operation.rename i d e (displaced i (search (readVolume n b v) e second)) name second))) (f .found z);
+        many = λ z. ap (λ (w : Option ℕ). length (onFound w (λ i. Operation.rename i d e (displaced i (search (readVolume n b v) e second)) name second))) (f .found z);
         plain = λ k. refl;
         quiet = λ k. refl;
         effects = refl;

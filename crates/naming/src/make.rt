@@ -83,7 +83,7 @@ fn make(
         return Value::refused(wrong);
     }
     let own = make_refusal(view, n, b, parent, name, object);
-    let refused = change_refusal(log, n, b, m, program, own);
+    let refused = change_refusal(log, n, b, m, program, own, 1);
     if refused != ACCEPTED {
         return Value::refused(refused);
     }

@@ -63,7 +63,7 @@ pub fn remove(
         return Value::refused(wrong);
     }
     let sought = remove_refusal(view, n, b, parent, name);
-    let refused = change_refusal(log, n, b, m, program, sought.refused);
+    let refused = change_refusal(log, n, b, m, program, sought.refused, 1);
     if refused != ACCEPTED {
         return Value::refused(refused);
     }

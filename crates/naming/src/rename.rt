@@ -164,7 +164,7 @@ pub fn rename(
         return Value::refused(wrong);
     }
     let found = rename_refusal(view, n, b, parent, name, second_parent, second_name);
-    let refused = change_refusal(log, n, b, m, program, found.refused);
+    let refused = change_refusal(log, n, b, m, program, found.refused, 1);
     if refused != ACCEPTED {
         return Value::refused(refused);
     }

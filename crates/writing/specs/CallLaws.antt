@@ -44,7 +44,7 @@ range-record false q p o f d = refl
 
 module _ {n b m : ℕ} {s v l : List ℕ} (h : Admitted n b m s v l) (p : ℕ) where
   module _ (o f : ℕ) (d : List ℕ) (own : ℕ) (number : own ≡ firstNumber (writeRows b (readVolume n b v) o f d)) where
-    pub write-change : Change n b m p s v l (Call.write p o f d) own
+    pub write-change : Change n b m p s v l (Call.write p o f d) own 1
     unfolding answerOf writeOf
     write-change =
         record {
@@ -53,13 +53,13 @@ module _ {n b m : ℕ} {s v l : List ℕ} (h : Admitted n b m s v l) (p : ℕ) w
           is = refl;
           rise = refl;
           number = number;
-          one = λ z. refl;
+          many = λ z. refl;
           plain = λ k. refl;
           quiet = λ k. refl;
           effects = refl;
         }
 
-    module _ (k : ℕ) (e : k ≡ changeNumber (geometry n b m) (readLog m l) p own) (z : k ≡ 0) where
+    module _ (k : ℕ) (e : k ≡ changeNumber (geometry n b m) (readLog m l) p own 1) (z : k ≡ 0) where
       pub write-issuing : Issuing (geometry n b m) (modelIn n b m s v l) p (writes (readVolume n b v) o f d ∷ [])
       unfolding answerOf
       write-issuing = write-accepted (geometry n b m) (modelIn n b m s v l) (h .holds .sound) p o f d (change-accepted write-change k e z)
@@ -71,7 +71,7 @@ module _ {n b m : ℕ} {s v l : List ℕ} (h : Admitted n b m s v l) (p : ℕ) w
           rw (length-read n b v) at (file-below (readVolume n b v) o (range ∷ []) (sym (change-own write-change k e z) ∙ number))
 
   module _ (o f : ℕ) (own : ℕ) (number : own ≡ firstNumber (lengthRows b (readVolume n b v) o f)) where
-    pub length-change : Change n b m p s v l (Call.setLength p o f) own
+    pub length-change : Change n b m p s v l (Call.setLength p o f) own 1
     unfolding answerOf setLengthOf
     length-change =
         record {
@@ -80,19 +80,19 @@ module _ {n b m : ℕ} {s v l : List ℕ} (h : Admitted n b m s v l) (p : ℕ) w
           is = refl;
           rise = refl;
           number = number;
-          one = λ z. refl;
+          many = λ z. refl;
           plain = λ k. refl;
           quiet = λ k. refl;
           effects = refl;
         }
 
-    pub length-issuing : (k : ℕ) → k ≡ changeNumber (geometry n b m) (readLog m l) p own → k ≡ 0
+    pub length-issuing : (k : ℕ) → k ≡ changeNumber (geometry n b m) (readLog m l) p own 1 → k ≡ 0
         → Issuing (geometry n b m) (modelIn n b m s v l) p (Operation.setLength o f ∷ [])
     unfolding answerOf
     length-issuing k e z = length-accepted (geometry n b m) (modelIn n b m s v l) (h .holds .sound) p o f (change-accepted length-change k e z)
 
   module _ (d : List ℕ) (own : ℕ) (number : own ≡ firstNumber (forderRows (readVolume n b v) d)) where
-    pub forder-change : Change n b m p s v l (Call.forder p d) own
+    pub forder-change : Change n b m p s v l (Call.forder p d) own 1
     unfolding answerOf forderOf
     forder-change =
         record {
@@ -101,13 +101,13 @@ module _ {n b m : ℕ} {s v l : List ℕ} (h : Admitted n b m s v l) (p : ℕ) w
           is = refl;
           rise = refl;
           number = number;
-          one = λ z. refl;
+          many = λ z. refl;
           plain = λ k. refl;
           quiet = λ k. refl;
           effects = refl;
         }
 
-    module _ (k : ℕ) (e : k ≡ changeNumber (geometry n b m) (readLog m l) p own) (z : k ≡ 0) where
+    module _ (k : ℕ) (e : k ≡ changeNumber (geometry n b m) (readLog m l) p own 1) (z : k ≡ 0) where
       pub forder-issuing : Issuing (geometry n b m) (modelIn n b m s v l) p (Operation.forder (objectsOf d) ∷ [])
       unfolding answerOf
       forder-issuing = forder-accepted (geometry n b m) (modelIn n b m s v l) (h .holds .sound) p d (change-accepted forder-change k e z)

@@ -87,7 +87,7 @@ pub fn forder(
         return Value::refused(wrong);
     }
     let own = forder_refusal(view, n, b, list);
-    let refused = change_refusal(log, n, b, m, program, own);
+    let refused = change_refusal(log, n, b, m, program, own, 1);
     if refused != ACCEPTED {
         return Value::refused(refused);
     }

@@ -50,7 +50,7 @@ pub fn set_length(
         return Value::refused(wrong);
     }
     let own = length_refusal(view, n, b, object, length);
-    let refused = change_refusal(log, n, b, m, program, own);
+    let refused = change_refusal(log, n, b, m, program, own, 1);
     if refused != ACCEPTED {
         return Value::refused(refused);
     }

@@ -108,7 +108,7 @@ pub fn write(
         return Value::refused(wrong);
     }
     let own = write_refusal(view, n, b, object, offset, data);
-    let refused = change_refusal(log, n, b, m, program, own);
+    let refused = change_refusal(log, n, b, m, program, own, 1);
     if refused != ACCEPTED {
         return Value::refused(refused);
     }

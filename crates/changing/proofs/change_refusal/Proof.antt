@@ -13,14 +13,14 @@ returns : tie.Need-returns
 returns c =
     let p = c .before in
     let a = p .before .before .args in
-    by-program (geometry (a .n) (a .b) (a .m)) (readLog (a .m) (a .log .now)) (a .program) (a .own) (p .program-refusal .result) (p .program-refusal .ensures)
+    by-program (geometry (a .n) (a .b) (a .m)) (readLog (a .m) (a .log .now)) (a .program) (a .own) (a .count) (p .program-refusal .result) (p .program-refusal .ensures)
     (c .if1 .taken)
 
 returns-2 : tie.Need-returns-2
 returns-2 c =
     let p = c .before .before in
     let a = p .before .before .args in
-    by-own (geometry (a .n) (a .b) (a .m)) (readLog (a .m) (a .log .now)) (a .program) (a .own) (p .program-refusal .result) (p .program-refusal .ensures)
+    by-own (geometry (a .n) (a .b) (a .m)) (readLog (a .m) (a .log .now)) (a .program) (a .own) (a .count) (p .program-refusal .result) (p .program-refusal .ensures)
     (c .before .if1 .left) (c .if2 .taken)
 
 room-refusal-requires : tie.Need-room-refusal-requires
@@ -30,7 +30,7 @@ returns-3 : tie.Need-returns-3
 returns-3 c =
     let p = c .before .before .before in
     let a = p .before .before .args in
-    by-room (geometry (a .n) (a .b) (a .m)) (readLog (a .m) (a .log .now)) (a .program) (a .own) (p .program-refusal .result) (p .program-refusal .ensures)
+    by-room (geometry (a .n) (a .b) (a .m)) (readLog (a .m) (a .log .now)) (a .program) (a .own) (a .count) (p .program-refusal .result) (p .program-refusal .ensures)
     (c .before .before .if1 .left) (c .before .if2 .left)
     (c .room-refusal .result) (c .room-refusal .ensures)
 

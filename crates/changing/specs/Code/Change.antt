@@ -22,23 +22,23 @@ use Rattle.admission.specs.Code.Admitted.{modelIn, Admitted}
 abbrev pub ownRow : ℕ → Row
 ownRow k = row k (not (eqb k 0))
 
--- the number of a change that issues one operation: program, own table, room
-unfoldable pub changeNumber : Geometry → Log → ℕ → ℕ → ℕ
-changeNumber g l p own = firstNumber (programRows l p ++ (ownRow own ∷ roomFor g l 1))
+-- the number of a change that issues so many operations: program, own table, room
+unfoldable pub changeNumber : Geometry → Log → ℕ → ℕ → ℕ → ℕ
+changeNumber g l p own count = firstNumber (programRows l p ++ (ownRow own ∷ roomFor g l count))
 
 -- a call has one result and no buffer of its own: what every refusal of it gives
 abbrev pub Plain : Call → Type 0
 Plain c = (k : ℕ) → refusal k c ≡ answer k (0 ∷ []) []
 
 -- a call that is a change by program p, on three buffers that passed: its table, whose own rows give the number `own`, and what it
--- issues, which is one operation where these rows let it pass
-pub record Change (n b m p : ℕ) (s v l : List ℕ) (c : Call) (own : ℕ) : Type 0 where
+-- issues, which is `count` operations where these rows let it pass
+pub record Change (n b m p : ℕ) (s v l : List ℕ) (c : Call) (own count : ℕ) : Type 0 where
   pub held : Admitted n b m s v l
   pub rows : List Row
   pub is : answerOf (geometry n b m) c (modelIn n b m s v l) ≡ changed (geometry n b m) c p rows (modelIn n b m s v l)
   pub rise : rising 4 (rows ++ roomRows (geometry n b m) c (modelIn n b m s v l)) ≡ true
   pub number : own ≡ firstNumber rows
-  pub one : own ≡ 0 → length (issues (readVolume n b v) c) ≡ 1
+  pub many : own ≡ 0 → length (issues (readVolume n b v) c) ≡ count
   pub plain : Plain c
   pub quiet : (k : ℕ) → refusedEffects c (refusal k c) (waitingIn (modelIn n b m s v l)) ≡ []
   pub effects : acceptedEffects c (readVolume n b v) (waitingIn (modelIn n b m s v l)) ≡ issuing p (issues (readVolume n b v) c)

@@ -1,4 +1,5 @@
 -- `writing::forder::forder` meets its contract: refused for what it is lent, refused by its table, or issued. Assumes nothing.
+use native.Mathlib.Omega.{arith}
 use mathlib.Core.Path.{refl, sym, _∙_}
 use Rattle.records.specs.Operation.{Operation}
 use Rattle.records.specs.Fields.{objectsOf}
@@ -26,7 +27,7 @@ held c =
     admitted (a .n) (a .b) (a .m) (a .server .now) (a .view .now) (a .log .now) (sym (c .before .admit .ensures) ∙ c .if1 .left)
 
 -- the call as a change, with the number that its own table gives
-change : (c : tie.After-change-refusal) → let a = start (c .before .before .before) .args in Change (a .n) (a .b) (a .m) (a .program) (a .server .now) (a .view .now) (a .log .now) (Call.forder (a .program) (a .list .now)) (c .before .before .forder-refusal .result)
+change : (c : tie.After-change-refusal) → let a = start (c .before .before .before) .args in Change (a .n) (a .b) (a .m) (a .program) (a .server .now) (a .view .now) (a .log .now) (Call.forder (a .program) (a .list .now)) (c .before .before .forder-refusal .result) 1
 change c =
     let a = start (c .before .before .before) .args in
     let w = c .before .before .forder-refusal in
@@ -52,7 +53,7 @@ forder-refusal-requires : tie.Need-forder-refusal-requires
 forder-refusal-requires c κs = held c .view .lent
 
 change-refusal-requires : tie.Need-change-refusal-requires
-change-refusal-requires c κs = held (c .before .before) .log
+change-refusal-requires c κs = (held (c .before .before) .log, omega arith)
 
 refused-requires-2 : tie.Need-refused-requires-2
 refused-requires-2 c κs = search needs

@@ -1,4 +1,5 @@
 -- `writing::length::set_length` meets its contract: refused for what it is lent, refused by its table, or issued. Assumes nothing.
+use native.Mathlib.Omega.{arith}
 use mathlib.Core.Path.{refl, sym, _∙_}
 use Rattle.records.specs.Operation.{Operation}
 use Rattle.writer.specs.Code.Writer.{lengthRecord}
@@ -27,7 +28,7 @@ held c =
     admitted (a .n) (a .b) (a .m) (a .server .now) (a .view .now) (a .log .now) (sym (c .before .admit .ensures) ∙ c .if1 .left)
 
 -- the call as a change, with the number that its own table gives
-change : (c : tie.After-change-refusal) → let a = start (c .before .before .before .before) .args in Change (a .n) (a .b) (a .m) (a .program) (a .server .now) (a .view .now) (a .log .now) (Call.setLength (a .program) (a .object) (a .length)) (c .before .before .length-refusal .result)
+change : (c : tie.After-change-refusal) → let a = start (c .before .before .before .before) .args in Change (a .n) (a .b) (a .m) (a .program) (a .server .now) (a .view .now) (a .log .now) (Call.setLength (a .program) (a .object) (a .length)) (c .before .before .length-refusal .result) 1
 change c =
     let a = start (c .before .before .before .before) .args in
     length-change (held (c .before .before .before .before)) (a .program) (a .object) (a .length) (c .before .before .length-refusal .result) (c .before .before .length-refusal .ensures)
@@ -61,7 +62,7 @@ length-refusal-requires : tie.Need-length-refusal-requires
 length-refusal-requires c κs = held (c .before) .view .lent
 
 change-refusal-requires : tie.Need-change-refusal-requires
-change-refusal-requires c κs = held (c .before .before .before) .log
+change-refusal-requires c κs = (held (c .before .before .before) .log, omega arith)
 
 refused-requires-2 : tie.Need-refused-requires-2
 refused-requires-2 c κs = search needs

@@ -1,4 +1,5 @@
 -- `writing::write::write` meets its contract: refused for what it is lent, refused by its table, or issued. Assumes nothing.
+use native.Mathlib.Omega.{arith}
 use mathlib.Core.Path.{_≡_, refl, sym, ap, _∙_}
 use mathlib.Core.List.{[], _∷_}
 use mathlib.Core.Bool.{Bool}
@@ -46,7 +47,7 @@ held c =
     admitted (a .n) (a .b) (a .m) (a .server .now) (a .view .now) (a .log .now) (sym (c .before .admit .ensures) ∙ c .if1 .left)
 
 -- the call as a change, with the number that its own table gives
-change : (c : tie.After-change-refusal) → let a = start (c .before .before .before .before) .args in Change (a .n) (a .b) (a .m) (a .program) (a .server .now) (a .view .now) (a .log .now) (Call.write (a .program) (a .object) (a .offset) (a .«data» .now)) (c .before .before .write-refusal .result)
+change : (c : tie.After-change-refusal) → let a = start (c .before .before .before .before) .args in Change (a .n) (a .b) (a .m) (a .program) (a .server .now) (a .view .now) (a .log .now) (Call.write (a .program) (a .object) (a .offset) (a .«data» .now)) (c .before .before .write-refusal .result) 1
 change c =
     let a = start (c .before .before .before .before) .args in
     let w = c .before .before .write-refusal in
@@ -89,7 +90,7 @@ write-refusal-requires : tie.Need-write-refusal-requires
 write-refusal-requires c κs = held (c .before) .view .lent
 
 change-refusal-requires : tie.Need-change-refusal-requires
-change-refusal-requires c κs = held (c .before .before .before) .log
+change-refusal-requires c κs = (held (c .before .before .before) .log, omega arith)
 
 refused-requires-2 : tie.Need-refused-requires-2
 refused-requires-2 c κs = search needs
