@@ -1,0 +1,389 @@
+/* Bounded and exhaustive: all sequences of up to 4 operations from a small alphabet on 3 objects, every closed set of them sent
+ * by pushes in every order, then a cut. Run it with ./exhaustive. What buffers, answers, marks and losses have to be is
+ * reckoned by the host alone, in exhaustive_parts/trial.c. It stops with 1 at the first difference. */
+#include <string.h>
+#include <time.h>
+#include "trial.h"
+
+static const struct assignment assignments[] = {
+    {"0, 1, 2, 3; 5 asks before each cut", 5, {0, 1, 2, 3, 4}, BEFORE_CUT},
+    {"0, 1, 0, 1; 5 asks after the last operation", 2, {0, 1, 0, 1, 0}, AFTER_LAST},
+    {"0, 0, 1, 1; 5 asks after the first operation", 2, {0, 0, 1, 1, 0}, AFTER_FIRST},
+};
+enum { ASSIGNMENTS = sizeof assignments / sizeof assignments[0] };
+
+/* ---- Losses ---- */
+
+/* The program's next loss is the operation, in every field, or there is none if none is wanted. The rest of the buffer stays. */
+static void take(struct buffers *lent, uint64_t program, const struct operation *wanted)
+{
+    uint8_t record[WB_RECORD_BYTES], filled[WB_RECORD_BYTES];
+    struct operation got;
+    struct wb_value taken;
+    memset(record, 170, sizeof record);
+    memset(filled, 170, sizeof filled);
+    taken = wb_take(LENT(lent), program, record, sizeof record);
+    answered("take", taken.returned, wanted ? WB_ACCEPTED : WB_NONE);
+    equal("the length of the record", taken.value, wb_record(0, record, counted(sizeof record)).next);
+    same("the buffer past the record", record + taken.value, filled, sizeof record - taken.value);
+    if (!wanted || (operation_of_record(record, counted(taken.value), &got) && same_operation(&got, wanted)))
+        return;
+    printf("the loss taken is ");
+    print_operation(stdout, &got);
+    fail("\nand should be operation %d", (int)wanted->sequence);
+}
+
+/* What a cut leaves: both volumes, the losses not yet taken, and the marks. */
+struct remains {
+    uint8_t volume[VOLUME];
+    unsigned losses;
+    uint32_t marks;
+};
+
+/* The program is marked or not; it takes its losses, each once and in issue order, and can renew only then. */
+static void recover(struct buffers *lent, uint64_t program, struct remains *left)
+{
+    int marked = left->marks >> program & 1;
+    uint64_t i;
+    answered("the root's status after the cut", wb_stat(LENT(lent), program, 0).returned, marked ? WB_MARKED : WB_ACCEPTED);
+    for (i = 0; i < now.issued; i++)
+        if (in(left->losses, i) && now.operations[i].program == program) {
+            answered("renew with losses left", wb_renew(LENT(lent), program).returned, WB_LOSSES_LEFT);
+            take(lent, program, &now.operations[i]);
+            left->losses &= ~(1u << i);
+            check_lost(lent, left->volume, left->losses, left->marks);
+            counts.losses++;
+        }
+    take(lent, program, NULL);
+    answered("renew after the last loss", wb_renew(LENT(lent), program).returned, WB_ACCEPTED);
+    left->marks &= ~(UINT32_C(1) << program);
+    check_lost(lent, left->volume, left->losses, left->marks);
+    answered("the root's status after renewing", wb_stat(LENT(lent), program, 0).returned, WB_ACCEPTED);
+}
+
+/* After a cut with the set sent: the dependents of all others are marked. The programs that issue, one that does nothing and the
+ * asker recover, and then the log is empty. */
+static void check_recovery(struct buffers *lent, unsigned sent, const uint32_t dependents[MOST])
+{
+    struct remains left;
+    uint64_t program;
+    outcome(sent, left.volume);
+    left.losses = all() & ~sent;
+    left.marks = dependents_of(left.losses, dependents);
+    check_lost(lent, left.volume, left.losses, left.marks);
+    for (program = 0; program <= now.assignment->count && program < ASKER; program++)
+        recover(lent, program, &left);
+    recover(lent, ASKER, &left);
+    check_lost(lent, left.volume, 0, 0);
+}
+
+/* ---- Pushes, then a cut ---- */
+
+/* The asker asks for the status of object 1. If the object is used, it depends on what leads to it. */
+static void ask(struct buffers *lent, uint32_t dependents[MOST])
+{
+    const uint64_t object = 1;
+    const struct volume view = volume_of(stage()->view);
+    const struct wb_status status = wb_stat(LENT(lent), ASKER, object);
+    answered("the status of object 1", status.returned, kind_at(&view, object) == FREE ? WB_NO_OBJECT : WB_ACCEPTED);
+    equal("the kind of object 1", status.kind, kind_at(&view, object));
+    equal("the length of object 1", status.length, length_at(&view, object));
+    if (status.returned == WB_ACCEPTED)
+        depend(dependents, ASKER, &object, 1);
+}
+
+static void try_cut(const struct buffers *lent, unsigned sent)
+{
+    struct buffers copy = *lent;
+    uint32_t dependents[MOST];
+    memcpy(dependents, stage()->dependents, sizeof dependents);
+    if (now.assignment->asks == BEFORE_CUT)
+        ask(&copy, dependents);
+    answered("cut", wb_cut(LENT(&copy)).returned, WB_ACCEPTED);
+    check_recovery(&copy, sent, dependents);
+    counts.cuts++;
+}
+
+static uint64_t answer_to_push(uint64_t i, unsigned sent)
+{
+    return in(sent, i) ? WB_NONE : now.preceding[i] & ~sent ? WB_NOT_FIRST : WB_ACCEPTED;
+}
+
+/* The set is sent. Tries a cut there, and a push of each operation; where it is accepted, goes on from there. */
+static void push_on(const struct buffers *lent, unsigned sent, uint8_t *reached)
+{
+    static struct buffers copies[MOST + 1];
+    struct buffers *copy = &copies[now.pushes];
+    uint64_t i;
+    check_waiting(lent, sent, stage()->dependents);
+    try_cut(lent, sent);
+    reached[sent] = 1;
+    counts.orders++;
+    counts.whole += sent == all();
+    for (i = 0; i < now.issued; i++) {
+        *copy = *lent;
+        now.pushed[now.pushes++] = i + 1;
+        answered("the last push", wb_push(LENT(copy), i + 1).returned, answer_to_push(i, sent));
+        if (answer_to_push(i, sent) == WB_ACCEPTED)
+            push_on(copy, sent | 1u << i, reached);
+        else
+            unchanged("the last push, which is refused,", copy, lent);
+        now.pushes--;
+    }
+}
+
+/* All orders of pushes, and that the sets reached are the closed ones. */
+static void try_pushes(const struct buffers *lent)
+{
+    uint8_t reached[1 << MOST] = {0};
+    unsigned set;
+    reckon_order();
+    push_on(lent, 0, reached);
+    for (set = 0; set <= all(); set++) {
+        equal("whether a set of operations can be sent", reached[set], (uint64_t)closed(set));
+        counts.sets += reached[set];
+    }
+}
+
+/* ---- Fsync ---- */
+
+static uint64_t size_of(unsigned set) { return set ? (set & 1) + size_of(set >> 1) : 0; }
+
+static unsigned without_last(unsigned set)
+{
+    unsigned last = 1u << MOST;
+    while (last && !(set & last))
+        last >>= 1;
+    return set & ~last;
+}
+
+/* Fsync of the object, which needs a set of operations, over a link that carries those sent. */
+static void try_fsync(uint64_t object, unsigned needs, unsigned sent)
+{
+    struct buffers copy = stage()->lent;
+    uint32_t dependents[MOST];
+    struct wb_value got;
+    now.fsyncs = 1;
+    now.object = object;
+    now.sends = size_of(sent);
+    got = wb_fsync(LENT(&copy), ASKER, object, now.sends);
+    memcpy(dependents, stage()->dependents, sizeof dependents);
+    depend(dependents, ASKER, &object, 1);
+    answered("fsync", got.returned, sent == needs ? WB_ACCEPTED : WB_LINK_LOST);
+    equal("the sends of fsync", got.value, now.sends);
+    if (sent == needs)
+        check_waiting(&copy, sent, dependents);
+    else
+        check_recovery(&copy, sent, dependents);
+    now.fsyncs = 0;
+    counts.fsyncs++;
+    counts.links += sent != needs;
+}
+
+/* Every object in use, with the sends that it needs and with one too few. */
+static void try_fsyncs(void)
+{
+    const struct volume view = volume_of(stage()->view);
+    uint64_t object;
+    unsigned needs;
+    for (object = 0; object < N; object++) {
+        needs = needed(object);
+        if (kind_at(&view, object) == FREE)
+            continue;
+        try_fsync(object, needs, needs);
+        if (needs)
+            try_fsync(object, needs, without_last(needs));
+    }
+}
+
+/* ---- Sequences ---- */
+
+static struct wb_value call(struct buffers *lent, const struct operation *given)
+{
+    uint8_t list[2 * WB_LIST_OBJECTS] = {0};
+    uint64_t i;
+    switch (given->kind) {
+    case CREATE_FILE:
+        return wb_create(LENT(lent), given->program, given->parent, given->name, given->name_length, given->object);
+    case MAKE_DIRECTORY:
+        return wb_mkdir(LENT(lent), given->program, given->parent, given->name, given->name_length, given->object);
+    case REMOVE:
+        return wb_remove(LENT(lent), given->program, given->parent, given->name, given->name_length);
+    case RENAME:
+        return wb_rename(LENT(lent), given->program, given->parent, given->name, given->name_length,
+                         given->second_parent, given->second_name, given->second_name_length);
+    case SET_LENGTH:
+        return wb_setlen(LENT(lent), given->program, given->object, given->offset);
+    case FORDER:
+        for (i = 0; i < given->list_length; i++)
+            list[2 * i] = (uint8_t)given->list[i];
+        return wb_forder(LENT(lent), given->program, list, 2 * given->list_length);
+    default:
+        return wb_write(LENT(lent), given->program, given->object, given->offset, given->data, given->data_length);
+    }
+}
+
+/* Issues the letter in a copy of the present stage. Tells whether it is accepted, as it is if the host reckons so. */
+static int issue(const struct letter *letter)
+{
+    struct stage *next = stage() + 1;
+    struct volume view = volume_of(next->view);
+    struct operation *operation = &now.operations[now.issued];
+    uint64_t objects[WB_LIST_OBJECTS];
+    struct wb_value got;
+    *next = *stage();
+    spell(letter, &view, now.issued + 1, operation);
+    operation->program = now.assignment->programs[now.issued];
+    got = call(&next->lent, operation);
+    if (!acceptable(&view, operation)) {
+        equal("whether the call is refused", got.returned != WB_ACCEPTED && got.value == 0, 1);
+        unchanged("the refused call", &next->lent, &stage()->lent);
+        counts.refused++;
+        return 0;
+    }
+    answered("the call", got.returned, WB_ACCEPTED);
+    equal("the sequence number given", got.value, operation->sequence);
+    depend(next->dependents, operation->program, objects, operands(operation, objects));
+    next->dependents[now.issued] = UINT32_C(1) << operation->program;
+    replay(&view, operation);
+    now.issued++;
+    now.operations[now.issued].sequence = 0;
+    check_waiting(&next->lent, 0, next->dependents);
+    counts.kinds[operation->kind]++;
+    return 1;
+}
+
+static void show_progress(void)
+{
+    static time_t shown;
+    if (!shown)
+        shown = time(NULL);
+    if (time(NULL) < shown + 5)
+        return;
+    shown = time(NULL);
+    fprintf(stderr, "starting volume %d of %d, programs %d of %d: %lu cuts, %lu calls so far\n", (int)(now.start - starts) + 1,
+            (int)start_count, (int)(now.assignment - assignments) + 1, ASSIGNMENTS, (unsigned long)counts.cuts,
+            (unsigned long)counts.calls);
+}
+
+/* The sequence issued so far. */
+static void try_sequence(void)
+{
+    struct stage kept = *stage();
+    if (now.assignment->asks == AFTER_LAST)
+        ask(&stage()->lent, stage()->dependents);
+    try_pushes(&stage()->lent);
+    try_fsyncs();
+    *stage() = kept;
+    counts.sequences[now.issued]++;
+    show_progress();
+}
+
+/* The sequence issued so far, and all that begin with it. */
+static void try_all(void)
+{
+    uint64_t letter;
+    if (now.assignment->asks == AFTER_FIRST && now.issued == 1)
+        ask(&stage()->lent, stage()->dependents);
+    try_sequence();
+    if (now.issued == now.most)
+        return;
+    for (letter = 0; letter < letter_count; letter++)
+        if (issue(&alphabet[letter])) {
+            try_all();
+            now.issued--;
+        }
+}
+
+/* Makes the starting volume by calls and pushes, and mounts it anew. */
+static void prepare(void)
+{
+    struct buffers *lent = &now.stages[0].lent;
+    struct volume view = volume_of(now.stages[0].view);
+    struct operation operation;
+    uint64_t i;
+    memset(&now.stages[0], 0, sizeof now.stages[0]);
+    now.operations[0].sequence = 0;
+    answered("format", wb_format(counted(N), B, SLOTS, lent->server, VOLUME).returned, WB_ACCEPTED);
+    answered("mount", wb_mount(LENT(lent)).returned, WB_ACCEPTED);
+    memcpy(view.bytes, lent->server, VOLUME);
+    for (i = 0; i < now.start->count; i++) {
+        spell(&now.start->letters[i], &view, MOST + 1, &operation);
+        replay(&view, &operation);
+        answered("a call for the starting volume", call(lent, &operation).returned, WB_ACCEPTED);
+        answered("a push for the starting volume", wb_push(LENT(lent), i + 1).returned, WB_ACCEPTED);
+    }
+    same("the starting volume", lent->server, view.bytes, VOLUME);
+    answered("mount", wb_mount(LENT(lent)).returned, WB_ACCEPTED);
+}
+
+static void print_count(uint64_t count, const char *text) { printf("%12lu %s\n", (unsigned long)count, text); }
+
+/* How often each kind was issued, and under which rule of order the pairs of a sequence fall. */
+static void print_alphabet(void)
+{
+    uint64_t kind;
+    printf("%d letters; %d starting volumes and programs in %d ways, for each of which a sequence counts anew\n",
+           (int)letter_count, (int)start_count, ASSIGNMENTS);
+    for (kind = CREATE_FILE; kind <= FORDER; kind++)
+        printf("%12lu operations issued: %s\n", (unsigned long)counts.kinds[kind], kind_text(kind));
+    print_count(counts.apart, "pairs of operations without a shared operand");
+    print_count(counts.touching, "pairs that share one and are not two overwrites");
+    print_count(counts.loose, "pairs of overwrites of a file without a common byte");
+    print_count(counts.common, "pairs of overwrites with a common byte");
+}
+
+static void print_counts(void)
+{
+    uint64_t i, sequences = 0;
+    for (i = 0; i <= now.most; sequences += counts.sequences[i++])
+        printf("%12lu sequences of length %d\n", (unsigned long)counts.sequences[i], (int)i);
+    print_count(sequences, "sequences tried");
+    print_count(counts.refused, "sequences refused at their last operation");
+    print_count(counts.sets, "closed sets");
+    print_count(counts.orders, "orders of pushes of a closed set");
+    print_count(counts.whole, "of them with the whole sequence sent");
+    print_count(counts.cuts, "cuts after pushes");
+    print_count(counts.fsyncs, "fsyncs");
+    print_count(counts.links, "of them with too few sends");
+    print_count(counts.losses, "losses fetched");
+    print_count(counts.calls, "calls");
+    printf("all %lu sequences held\n", (unsigned long)sequences);
+}
+
+static void usage(FILE *file)
+{
+    fprintf(file, "usage: exhaustive [--operations K]\n"
+            "Tries all sequences of up to K operations, 0 to %d; 4 if not given.\n", MOST);
+}
+
+/* The number after --operations; over MOST if it is none. */
+static uint64_t operations_given(const char *text)
+{
+    return text[0] >= '0' && text[0] <= '9' && !text[1] ? (uint64_t)(text[0] - '0') : MOST + 1;
+}
+
+int main(int count, char **arguments)
+{
+    uint64_t i;
+    now.most = count == 1 ? 4 : MOST + 1;
+    if (count == 2 && strcmp(arguments[1], "--help") == 0) {
+        usage(stdout);
+        return 0;
+    }
+    if (count == 3 && strcmp(arguments[1], "--operations") == 0)
+        now.most = operations_given(arguments[2]);
+    if (now.most > MOST) {
+        usage(stderr);
+        return 2;
+    }
+    for (i = 0; i < start_count * ASSIGNMENTS; i++) {
+        now.start = &starts[i / ASSIGNMENTS];
+        now.assignment = &assignments[i % ASSIGNMENTS];
+        prepare();
+        try_all();
+    }
+    print_alphabet();
+    print_counts();
+    return 0;
+}

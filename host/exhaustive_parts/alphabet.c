@@ -1,0 +1,126 @@
+#include "alphabet.h"
+#include <string.h>
+
+/* Two renames of each object: to a name that mostly is free, and onto one that another may have. Overwrites of object 1 with and
+ * without a common byte. */
+const struct letter alphabet[] = {
+    {.kind = CREATE_FILE, .object = 1, .parent = 0, .name = "a"},
+    {.kind = CREATE_FILE, .object = 2, .parent = 0, .name = "b"},
+    {.kind = CREATE_FILE, .object = 2, .parent = 3, .name = "a"},
+    {.kind = CREATE_FILE, .object = 3, .parent = 0, .name = "d"},
+    {.kind = MAKE_DIRECTORY, .object = 2, .parent = 0, .name = "b"},
+    {.kind = MAKE_DIRECTORY, .object = 3, .parent = 0, .name = "d"},
+    {.kind = RENAME, .object = 1, .parent = 0, .name = "x"},
+    {.kind = RENAME, .object = 1, .parent = 0, .name = "b"},
+    {.kind = RENAME, .object = 2, .parent = 3, .name = "a"},
+    {.kind = RENAME, .object = 2, .parent = 0, .name = "a"},
+    {.kind = RENAME, .object = 3, .parent = 0, .name = "x"},
+    {.kind = RENAME, .object = 3, .parent = 0, .name = "b"},
+    {.kind = OVERWRITE, .object = 1, .offset = 0, .length = 4},
+    {.kind = OVERWRITE, .object = 1, .offset = 4, .length = 4},
+    {.kind = OVERWRITE, .object = 1, .offset = 3, .length = 2},
+    {.kind = OVERWRITE, .object = 2, .offset = 0, .length = 4},
+    {.kind = OVERWRITE, .object = 3, .offset = 0, .length = 4},
+    {.kind = APPEND, .object = 1, .length = 2},
+    {.kind = APPEND, .object = 2, .length = 2},
+    {.kind = APPEND, .object = 3, .length = 2},
+    {.kind = SET_LENGTH, .object = 1, .offset = 6},
+    {.kind = REMOVE, .object = 1},
+    {.kind = REMOVE, .object = 2},
+    {.kind = REMOVE, .object = 3},
+    {.kind = FORDER, .list_length = 2, .list = {1, 2}},
+    {.kind = FORDER, .list_length = 3, .list = {1, 2, 3}},
+};
+const uint64_t letter_count = sizeof alphabet / sizeof alphabet[0];
+
+#define FILE_OF_8(number, directory, text) \
+    {.kind = CREATE_FILE, .object = number, .parent = directory, .name = text}, {.kind = APPEND, .object = number, .length = 8}
+#define DIRECTORY(number, text) {.kind = MAKE_DIRECTORY, .object = number, .parent = 0, .name = text}
+
+const struct start starts[] = {
+    {.text = "empty"},
+    {.text = "files 1 and 2", .count = 4, .letters = {FILE_OF_8(1, 0, "a"), FILE_OF_8(2, 0, "b")}},
+    {.text = "directory 3 with file 1 in it, and file 2", .count = 5,
+     .letters = {DIRECTORY(3, "d"), FILE_OF_8(1, 3, "a"), FILE_OF_8(2, 0, "b")}},
+    {.text = "files 1, 2 and 3", .count = 6, .letters = {FILE_OF_8(1, 0, "a"), FILE_OF_8(2, 0, "b"), FILE_OF_8(3, 0, "d")}},
+    {.text = "file 1 and directories 2 and 3", .count = 4,
+     .letters = {FILE_OF_8(1, 0, "a"), DIRECTORY(2, "b"), DIRECTORY(3, "d")}},
+};
+const uint64_t start_count = sizeof starts / sizeof starts[0];
+
+static uint64_t put_text(uint8_t *name, const char *text)
+{
+    memcpy(name, text, strlen(text));
+    return strlen(text);
+}
+
+/* Where the object is and what it is called; if it is free, a name that nothing has. */
+static void put_present_name(const struct volume *view, struct operation *operation)
+{
+    const uint8_t *name = name_at(view, operation->object, &operation->name_length);
+    operation->parent = parent_at(view, operation->object);
+    memcpy(operation->name, name, operation->name_length);
+    if (kind_at(view, operation->object) == FREE)
+        operation->name_length = put_text(operation->name, "gone");
+}
+
+static void put_second_name(const struct letter *letter, const struct volume *view, struct operation *operation)
+{
+    uint64_t there;
+    operation->second_parent = letter->parent;
+    operation->second_name_length = put_text(operation->second_name, letter->name);
+    there = sought(view, letter->parent, operation->second_name, operation->second_name_length);
+    if (there != view->n && there != letter->object)
+        operation->displaced = there;
+}
+
+/* A write that begins at the length is an append. */
+static void put_data(const struct letter *letter, const struct volume *view, uint64_t sequence, struct operation *operation)
+{
+    uint64_t i, end = length_at(view, letter->object);
+    operation->offset = letter->kind == APPEND ? end : letter->offset;
+    operation->kind = operation->offset == end ? APPEND : OVERWRITE;
+    operation->data_length = letter->length;
+    for (i = 0; i < letter->length; i++)
+        operation->data[i] = (uint8_t)(32 * sequence + 8 * letter->object + i);
+}
+
+void spell(const struct letter *letter, const struct volume *view, uint64_t sequence, struct operation *operation)
+{
+    memset(operation, 0, sizeof *operation);
+    operation->sequence = sequence;
+    operation->kind = letter->kind;
+    operation->object = letter->object;
+    switch (letter->kind) {
+    case CREATE_FILE:
+    case MAKE_DIRECTORY:
+        operation->parent = letter->parent;
+        operation->name_length = put_text(operation->name, letter->name);
+        break;
+    case RENAME:
+        put_second_name(letter, view, operation);
+        /* fall through */
+    case REMOVE:
+        put_present_name(view, operation);
+        break;
+    case OVERWRITE:
+    case APPEND:
+        put_data(letter, view, sequence, operation);
+        break;
+    case SET_LENGTH:
+        operation->offset = letter->offset;
+        break;
+    case FORDER:
+        operation->list_length = letter->list_length;
+        memcpy(operation->list, letter->list, sizeof letter->list);
+    }
+}
+
+int acceptable(const struct volume *view, const struct operation *operation)
+{
+    uint64_t i;
+    for (i = 0; i < operation->list_length; i++)
+        if (kind_at(view, operation->list[i]) == FREE)
+            return 0;
+    return applies(view, operation);
+}

@@ -1,0 +1,36 @@
+/* The alphabet of host/exhaustive and the volumes that its sequences start from. */
+#ifndef ALPHABET_H
+#define ALPHABET_H
+
+#include "replay.h"
+
+/* A call as chosen before the state is known in which it is made. A file or directory is removed or renamed by the name that it
+ * then has, and an append begins at the length that the file then has. */
+struct letter {
+    enum kind kind;
+    uint64_t object, parent;         /* of a rename the second parent */
+    const char *name;                /* of a rename the second name */
+    uint64_t offset, length;         /* of a write; of a set length the offset is the new length */
+    uint64_t list_length, list[3];
+};
+
+extern const struct letter alphabet[];
+extern const uint64_t letter_count;
+
+/* A volume, with the letters that make it. */
+struct start {
+    const char *text;
+    uint64_t count;
+    struct letter letters[6];
+};
+
+extern const struct start starts[];
+extern const uint64_t start_count;
+
+/* The operation that the letter is in a view, but for its program. Each sequence number writes bytes of its own. */
+void spell(const struct letter *letter, const struct volume *view, uint64_t sequence, struct operation *operation);
+
+/* Whether the call of the operation has to be accepted in a view. */
+int acceptable(const struct volume *view, const struct operation *operation);
+
+#endif

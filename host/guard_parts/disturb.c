@@ -1,0 +1,258 @@
+/* Changes to the buffers between calls: damage, other moments of the same volume, and logs and volumes that no call has made. */
+#include <string.h>
+#include "guard.h"
+
+#define MOMENTS 3
+
+/* The three buffers at one time. */
+struct moment {
+    uint8_t held[LOG + 1][WB_LOG_BYTES(WB_MOST_SLOTS)];
+};
+static struct moment sound[MOMENTS], before;
+static uint64_t undo_in; /* calls until the last change is undone, or left so */
+static uint64_t damaged_calls;
+
+static void keep(struct moment *moment)
+{
+    int buffer;
+    for (buffer = SERVER; buffer <= LOG; buffer++) {
+        const uint64_t length = present_length((enum buffer)buffer);
+        memcpy(moment->held[buffer], copy_of((enum buffer)buffer, length), length);
+    }
+}
+
+/* Puts back some of the buffers (bits) as they were. */
+static void restore(const struct moment *moment, uint32_t buffers)
+{
+    int buffer;
+    for (buffer = SERVER; buffer <= LOG; buffer++) {
+        const uint64_t length = present_length((enum buffer)buffer);
+        if (HAS(buffers, buffer))
+            put((enum buffer)buffer, length, 0, moment->held[buffer], length);
+    }
+}
+#define ALL_THREE (BIT(SERVER) | BIT(VIEW) | BIT(LOG))
+
+/* ---- Records, logs and volumes that are well formed ---- */
+static uint8_t *add(uint8_t *at, uint64_t number, int bytes)
+{
+    put_number(at, number, bytes);
+    return at + bytes;
+}
+
+/* Parent and name of an object: those that it has in the view, or any. */
+struct place {
+    uint64_t parent, length;
+    uint8_t name[WB_NAME_BYTES];
+};
+
+static struct place place_of(uint64_t object, uint64_t n, int real)
+{
+    struct place place;
+    place.parent = chance(2, 3) ? 0 : below(n);
+    place.length = a_name(place.name);
+    if (real && object_at(object)[1] > 0 && object_at(object)[1] <= WB_NAME_BYTES) {
+        place.parent = parent_of(object) % n;
+        place.length = object_at(object)[1];
+        memcpy(place.name, object_at(object) + 4, place.length);
+    }
+    return place;
+}
+
+static uint8_t *add_name(uint8_t *at, const struct place *place)
+{
+    *at = (uint8_t)place->length;
+    memcpy(at + 1, place->name, place->length);
+    return at + 1 + place->length;
+}
+
+/* An offset, mostly this one, and data in its block. */
+static uint8_t *add_data(uint8_t *at, uint64_t offset, uint64_t longest)
+{
+    const uint64_t block = below(longest / 1024) * 1024, within = ONE_OF(0, 0, 1, 2, 4, 1000, 1023);
+    const uint64_t begin = offset < longest && chance(1, 2) ? offset : block + within;
+    const uint64_t room = 1024 - begin % 1024, few = 1 + below(5), count = chance(1, 20) || few > room ? room : few;
+    at = add(at, begin, 4);
+    at = add(at, count, 2);
+    memset(at, (int)below(256), count);
+    return at + count;
+}
+
+static uint8_t *add_list(uint8_t *at, uint64_t n)
+{
+    const uint64_t wanted = ONE_OF(1, 2, 2, 3, 8), count = wanted < n ? wanted : n, from = below(n);
+    uint64_t i;
+    *at++ = (uint8_t)count;
+    for (i = 0; i < count; i++)
+        at = add(at, (from + i) % n, 2);
+    return at;
+}
+
+/* Puts a valid record that fits n objects and files of that length; with n as it is, mostly one about what the view holds. */
+void make_record(uint8_t *record, uint64_t sequence, uint64_t n, uint64_t longest)
+{
+    static const uint16_t maps[] = {0, 19, 19, 19, 55, 193, 193, 65, 256};
+    const int real = n == present.n && chance(2, 3);
+    const uint64_t kind = ONE_OF(1, 2, 3, 4, 4, 4, 5, 5, 6, 7, 8);
+    const uint64_t object = 1 + below(n - 1), displaced = 1 + (object + below(n - 1)) % (n - 1);
+    const uint64_t map = kind == 4 && displaced != object && chance(1, 2) ? 63 : maps[kind];
+    const struct place first = place_of(object, n, real), second = place_of(displaced, n, real && map == 63);
+    const uint64_t length = real ? length_of(object) % longest : below(longest + 1);
+    uint8_t *at = add(record, map, 2);
+    at = add(at, sequence, 4);
+    at = add(at, ONE_OF(0, 0, 1, 2, 3, 31), 1);
+    at = add(at, kind, 1);
+    if (HAS(map, 0))
+        at = add(at, object, 2);
+    if (HAS(map, 1))
+        at = add(at, first.parent, 2);
+    if (HAS(map, 2))
+        at = add(at, second.parent, 2);
+    if (HAS(map, 3))
+        at = add(at, displaced, 2);
+    if (HAS(map, 4))
+        at = add_name(at, &first);
+    if (HAS(map, 5))
+        at = add_name(at, &second);
+    if (map == 65)
+        at = add(at, ONE_OF(0, 1, 4, length, length, longest - 1, longest), 4);
+    if (HAS(map, 7))
+        at = add_data(at, length, longest);
+    if (HAS(map, 8))
+        add_list(at, n);
+}
+
+/* Makes a log of lost and then waiting operations, with gaps in the numbers and any dependents. */
+static void make_log(void)
+{
+    static uint8_t log[WB_LOG_BYTES(WB_MOST_SLOTS)];
+    const uint64_t count = present.m - below(present.m / 2 + 1), lost = below(count / 2 + 1);
+    uint64_t sequence = ONE_OF(0, 0, 5, 4294960000), slot;
+    memset(log, 0, WB_LOG_BYTES(present.m));
+    for (slot = 0; slot < count; slot++) {
+        uint8_t *const at = log + LOG_HEAD + slot * SLOT_BYTES;
+        sequence += 1 + below(3);
+        at[0] = slot < lost ? 2 : 1;
+        make_record(at + 8, sequence, present.n, 1024 * present.b);
+        if (slot >= lost)
+            put_number(at + 4, ONE_OF(BIT(at[14]), BIT(at[14]), 0, 5, BIT(31), UINT32_MAX), 4);
+    }
+    put_number(log, ONE_OF(sequence + 1, sequence + 9, WIDE - 1), 4);
+    put_number(log + 4, ONE_OF(0, 0, 0, 4, BIT(31)), 4);
+    put(LOG, WB_LOG_BYTES(present.m), 0, log, WB_LOG_BYTES(present.m));
+}
+
+/* Makes a server volume of entries each in a directory of a lower number, with names that differ. */
+void make_volume(void)
+{
+    static uint8_t volume[WB_LOG_BYTES(WB_MOST_SLOTS)];
+    const uint64_t length = present_length(SERVER), directories = ONE_OF(1, 2, 2, 4, 12);
+    uint64_t object;
+    memset(volume, 0, length);
+    volume[0] = DIRECTORY;
+    for (object = 1; object < present.n; object++) {
+        uint8_t *const at = volume + object * ENTRY_BYTES;
+        const uint64_t parent = below(object), bytes = chance(1, 4) ? below(1024 * present.b + 1) : below(12);
+        if (volume[parent * ENTRY_BYTES] != DIRECTORY || chance(1, 3))
+            continue;
+        at[0] = chance(directories, 16) ? DIRECTORY : FILE_KIND;
+        put_number(at + 2, parent, 2);
+        at[1] = (uint8_t)ONE_OF(2, 2, 2, 59, 60);
+        memset(at + 4, 'a' + (int)(object % 16), at[1]);
+        at[3 + at[1]] = (uint8_t)('a' + object / 16);
+        if (at[0] == FILE_KIND) {
+            put_number(at + 64, bytes, 4);
+            memset(at + 68, (int)below(256), bytes);
+        }
+    }
+    put(SERVER, length, 0, volume, length);
+}
+
+/* ---- Damage ---- */
+
+/* A byte of the log: of its head, or of the head, the record or the end of a slot that is used, or of the next. */
+static uint64_t place_in_log(void)
+{
+    static const uint64_t within[] = {0, 0, 1, 3, 4, 7, 8, 8, 9, 10, 10, 13, 14, 14, 15, 15, 16, 17, 18, 19, 20, 21, 22, 23, 24,
+        25, 28, 40, 1047};
+    const uint64_t used = slots_used(), slot = below(used < present.m ? used + 1 : used);
+    if (chance(1, 10))
+        return below(LOG_HEAD);
+    return LOG_HEAD + slot * SLOT_BYTES + (chance(1, 10) ? below(SLOT_BYTES) : PICK(within));
+}
+
+/* A byte of a volume: of the head, name or length of an entry, at the end of the file, or anywhere. */
+static uint64_t place_in_volume(void)
+{
+    const uint64_t object = below(present.n), length = length_of(object) % (1024 * present.b);
+    const uint64_t name = 4 + object_at(object)[1] % 60u, anywhere = below(ENTRY_BYTES);
+    return object * ENTRY_BYTES + ONE_OF(0, 0, 1, 2, 2, 3, 4, 5, name, name - 1, 63, 64, 65, 66, 67, 68 + length, ENTRY_BYTES - 1,
+                                         anywhere);
+}
+
+static void damage(void)
+{
+    const enum buffer buffer = (enum buffer)ONE_OF(SERVER, VIEW, LOG, LOG);
+    const uint64_t length = present_length(buffer), at = buffer == LOG ? place_in_log() : place_in_volume();
+    const uint8_t *const bytes = copy_of(buffer, length);
+    const uint8_t old = bytes[at], two_before = bytes[at < 2 ? at : at - 2], six_before = bytes[at < 6 ? at : at - 6];
+    const uint8_t random = (uint8_t)any();
+    const uint8_t byte = (uint8_t)ONE_OF(0, 1, 2, 3, 46, 47, 61, 97, 98, 255, random, two_before, six_before, old + 1u, old - 1u,
+                                         old ^ 128u);
+    put(buffer, length, at, &byte, 1);
+}
+
+/* The next sequence number comes near its end; the log stays well formed. */
+static void near_the_end(void)
+{
+    uint8_t next[4];
+    put_number(next, ONE_OF(WIDE - 1, WIDE - 1, WIDE - 2, WIDE - 3, WIDE - 4), 4);
+    put(LOG, present_length(LOG), 0, next, sizeof next);
+}
+
+/* Now and then changes the buffers, after some calls undoes it, or leaves it so. */
+void disturb(void)
+{
+    const uint64_t sort = below(1200), which = below(MOMENTS);
+    if (undo_in > 0) {
+        if (--undo_in == 0 && chance(7, 8))
+            restore(&before, ALL_THREE);
+        return;
+    }
+    if (sort >= 42)
+        return;
+    keep(&before);
+    undo_in = sort < 24 ? 1 + below(5) : 10 + below(30);
+    if (sort < 24)
+        do
+            damage();
+        while (chance(1, 8));
+    else if (sort < 26)
+        near_the_end();
+    else if (sort < 32)
+        restore(&sound[which], ONE_OF(BIT(SERVER), BIT(VIEW), BIT(LOG), BIT(LOG), BIT(SERVER) | BIT(VIEW), ALL_THREE));
+    else
+        make_log();
+}
+
+/* Keeps a moment now and then when the form is good; goes back to one when it has been broken for long. */
+void heed(const struct call *call, uint64_t returned)
+{
+    const int usual = call->length[SERVER] == present_length(SERVER) && call->length[VIEW] == present_length(VIEW)
+        && call->length[LOG] == present_length(LOG) && call->number[B] == present.b;
+    if (!usual || call->entry <= MOUNT || call->entry == RECORD || returned == WB_WRONG_BUFFER)
+        return;
+    damaged_calls = returned == WB_DAMAGED ? damaged_calls + 1 : 0;
+    if (returned == WB_ACCEPTED && chance(1, 100))
+        keep(&sound[below(MOMENTS)]);
+    if (damaged_calls > 12 && undo_in == 0)
+        restore(&sound[below(MOMENTS)], ALL_THREE);
+}
+
+void begin_moments(void)
+{
+    int i;
+    undo_in = damaged_calls = 0;
+    for (i = 0; i < MOMENTS; i++)
+        keep(&sound[i]);
+}

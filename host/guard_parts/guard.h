@@ -1,0 +1,118 @@
+/* What guard and its parts share: guard.c makes the calls and compares, memory.c lends the buffers, state.c reads what
+ * they hold, calls.c chooses sensible calls, wild.c makes arguments wild, disturb.c changes the buffers. */
+#ifndef GUARD_H
+#define GUARD_H
+
+#include <stddef.h>
+#include "second_calls.h"
+
+#define ENTRIES(DO) \
+    DO(FORMAT, format) DO(MOUNT, mount) DO(LOOKUP, lookup) DO(LIST, list) DO(STAT, stat) DO(READ, read) DO(CREATE, create) \
+    DO(MKDIR, mkdir) DO(REMOVE, remove) DO(RENAME, rename) DO(WRITE, write) DO(SETLEN, setlen) DO(FORDER, forder) DO(PUSH, push) \
+    DO(FSYNC, fsync) DO(CUT, cut) DO(TAKE, take) DO(RENEW, renew) DO(RECORD, record)
+#define CONSTANT(NAME, name) NAME,
+enum entry { ENTRIES(CONSTANT) ENTRY_COUNT };
+
+/* The numbers that calls are given, and the buffers that they are lent. OWN is the call's name, path, data, list or buffer. */
+enum number { N, B, M, PROGRAM, OBJECT, PARENT, SECOND_PARENT, OFFSET, LENGTH, SEQUENCE, SENDS, AT, NUMBERS };
+enum buffer { SERVER, VIEW, LOG, OWN, SECOND_NAME, BUFFERS };
+#define BIT(place) (UINT32_C(1) << (place))
+#define HAS(bits, place) ((bits) >> (place) & 1)
+
+struct call {
+    enum entry entry;
+    uint64_t number[NUMBERS];
+    uint64_t length[BUFFERS];
+    int null[BUFFERS]; /* a length of 0 is lent with a null pointer */
+};
+
+/* The numbers and buffers of an entry, and the returned numbers that it can give, as bits. */
+struct shape {
+    const char *name;
+    uint32_t numbers, buffers, returned;
+};
+extern const struct shape shapes[ENTRY_COUNT];
+extern const char *const number_names[NUMBERS];
+extern const char *const buffer_names[BUFFERS];
+
+/* ---- Random numbers, from a seed ---- */
+void sow(uint64_t seed);
+uint64_t any(void);
+uint64_t below(uint64_t limit);
+int chance(uint64_t in, uint64_t of);
+#define PICK(from) (from)[below(sizeof(from) / sizeof *(from))]
+/* One of several numbers; none of them may itself be random, since C leaves open which is reckoned first. */
+#define ONE_OF(...) PICK(((const uint64_t[]){__VA_ARGS__}))
+
+/* ---- The memory. Each area lies between unreadable pages, is mapped a second time for reading only, and has a copy for the
+ *      second program. Copy and area hold the same bytes between calls. ---- */
+enum placement { ENDS, BEGINS };  /* buffers end at an unreadable page, or begin after one */
+enum side { PROVED, SECOND, NEITHER };
+struct lent {
+    const uint8_t *read; /* for a parameter of type const uint8_t * */
+    uint8_t *write;
+    uint64_t length;
+};
+#define WIDE (UINT64_C(1) << 32)
+#define ROOM (WIDE + (UINT64_C(1) << 22)) /* the bytes of an area */
+extern enum placement placement;
+void open_areas(void);
+struct lent lend(const struct call *call, enum buffer buffer, enum side side);
+const uint8_t *copy_of(enum buffer buffer, uint64_t length);
+/* Changes bytes of a buffer of that length on both sides. */
+void put(enum buffer buffer, uint64_t length, uint64_t at, const void *bytes, uint64_t count);
+void fill(enum buffer buffer, uint64_t length, uint8_t byte);
+/* Whether the two sides differ in a buffer of that length; if so, at which byte first, and in what. */
+int differs(enum buffer buffer, uint64_t length, uint64_t *at, uint8_t bytes[2]);
+/* What a signal finds: the seed, the calls to be made, those made, the call that is being made and by which side. */
+struct progress {
+    uint64_t seed, calls, made;
+    struct call call;
+    volatile enum side turn;
+};
+extern struct progress progress;
+void catch_signals(void);
+
+/* ---- What the buffers hold now ---- */
+struct geometry {
+    uint64_t n, b, m;
+};
+extern struct geometry present;
+enum kind { FREE, FILE_KIND, DIRECTORY };
+#define ENTRY_BYTES (68 + 1024 * present.b)
+#define SLOT_BYTES 1048
+#define LOG_HEAD 8
+uint64_t present_length(enum buffer buffer);
+uint64_t number_at(const uint8_t *at, int bytes);
+void put_number(uint8_t *at, uint64_t number, int bytes);
+const uint8_t *object_at(uint64_t object); /* an entry of the view */
+const uint8_t *slot_at(uint64_t slot);
+uint64_t parent_of(uint64_t object);
+uint64_t length_of(uint64_t object);
+uint64_t listing_of(uint64_t directory); /* the bytes of a listing */
+uint64_t slots_used(void);
+uint64_t slots_lost(void);
+uint64_t sequence_of(uint64_t slot);
+uint64_t issuer_of(uint64_t slot);
+uint64_t marks(void);
+int marked(uint64_t program);
+int has_object(uint32_t kinds);
+/* An object of the view of one of these kinds (bits); if there is none any number up to n. */
+uint64_t object_of(uint32_t kinds);
+
+/* ---- Choosing ---- */
+#define LONGEST_TEXT 66000
+void text(struct call *call, enum buffer buffer, const void *bytes, uint64_t length); /* lends the call these bytes */
+uint64_t a_name(uint8_t *name);
+void lend_present(struct call *call, enum entry entry); /* a call with the three buffers as they are */
+void choose(struct call *call);
+void make_wild(struct call *call); /* one or more arguments of a chosen call */
+
+/* ---- Changing the buffers between calls ---- */
+void make_record(uint8_t *record, uint64_t sequence, uint64_t n, uint64_t longest);
+void make_volume(void);   /* a server volume with content */
+void begin_moments(void); /* forgets what was before */
+void disturb(void);
+void heed(const struct call *call, uint64_t returned);
+
+#endif

@@ -1,0 +1,140 @@
+/* Random numbers, and what the present buffers hold. The copies are read; they may be damaged, so every number is possible. */
+#include "guard.h"
+
+/* The splitmix64 sequence. */
+static uint64_t sown;
+
+void sow(uint64_t seed)
+{
+    sown = seed;
+}
+
+uint64_t any(void)
+{
+    uint64_t mixed = sown += UINT64_C(0x9e3779b97f4a7c15);
+    mixed = (mixed ^ mixed >> 30) * UINT64_C(0xbf58476d1ce4e5b9);
+    mixed = (mixed ^ mixed >> 27) * UINT64_C(0x94d049bb133111eb);
+    return mixed ^ mixed >> 31;
+}
+
+uint64_t below(uint64_t limit)
+{
+    return (any() >> 32) * limit >> 32;
+}
+
+int chance(uint64_t in, uint64_t of)
+{
+    return below(of) < in;
+}
+
+struct geometry present;
+
+uint64_t present_length(enum buffer buffer)
+{
+    return buffer == LOG ? WB_LOG_BYTES(present.m) : WB_VOLUME_BYTES(present.n, present.b);
+}
+
+uint64_t number_at(const uint8_t *at, int bytes)
+{
+    uint64_t number = 0;
+    while (bytes-- > 0)
+        number = number << 8 | at[bytes];
+    return number;
+}
+
+void put_number(uint8_t *at, uint64_t number, int bytes)
+{
+    for (; bytes-- > 0; number >>= 8)
+        *at++ = (uint8_t)number;
+}
+
+const uint8_t *object_at(uint64_t object)
+{
+    return copy_of(VIEW, present_length(VIEW)) + object * ENTRY_BYTES;
+}
+
+const uint8_t *slot_at(uint64_t slot)
+{
+    return copy_of(LOG, present_length(LOG)) + LOG_HEAD + slot * SLOT_BYTES;
+}
+
+uint64_t parent_of(uint64_t object)
+{
+    return number_at(object_at(object) + 2, 2);
+}
+
+uint64_t length_of(uint64_t object)
+{
+    return object < present.n ? number_at(object_at(object) + 64, 4) : 0;
+}
+
+uint64_t listing_of(uint64_t directory)
+{
+    uint64_t object, bytes = 0;
+    for (object = 1; object < present.n; object++)
+        if (object_at(object)[0] != FREE && parent_of(object) == directory)
+            bytes += 4 + object_at(object)[1];
+    return bytes;
+}
+
+static uint64_t slots_until(uint8_t state)
+{
+    uint64_t slot = 0;
+    while (slot < present.m && slot_at(slot)[0] != 0 && slot_at(slot)[0] != state)
+        slot++;
+    return slot;
+}
+
+uint64_t slots_used(void)
+{
+    return slots_until(0);
+}
+
+uint64_t slots_lost(void)
+{
+    return slots_until(1);
+}
+
+uint64_t sequence_of(uint64_t slot)
+{
+    return number_at(slot_at(slot) + 10, 4);
+}
+
+uint64_t issuer_of(uint64_t slot)
+{
+    return slot_at(slot)[14];
+}
+
+uint64_t marks(void)
+{
+    return number_at(slot_at(0) - 4, 4);
+}
+
+int marked(uint64_t program)
+{
+    return HAS(marks(), program % WB_PROGRAMS);
+}
+
+/* An object of one of these kinds, sought from any object on; or n. */
+static uint64_t seek(uint32_t kinds)
+{
+    const uint64_t from = below(present.n);
+    uint64_t i;
+    for (i = from; i < from + present.n; i++) {
+        const uint8_t kind = object_at(i % present.n)[0];
+        if (kind <= DIRECTORY && HAS(kinds, kind))
+            return i % present.n;
+    }
+    return present.n;
+}
+
+int has_object(uint32_t kinds)
+{
+    return seek(kinds) < present.n;
+}
+
+uint64_t object_of(uint32_t kinds)
+{
+    const uint64_t object = seek(kinds);
+    return object < present.n ? object : below(present.n + 1);
+}

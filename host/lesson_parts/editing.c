@@ -1,0 +1,105 @@
+#include "actions.h"
+
+#define LONG_FILE (16 * WB_BLOCK_BYTES)
+
+/* A pupil without a free number removes a file first. */
+uint64_t create_file(struct host *host, struct pupil *pupil)
+{
+    uint64_t returned, object = own_number(host, pupil->program);
+    struct name name = file_name(&host->chance);
+    if (object == host->n)
+        return remove_file(host, pupil);
+    returned = do_create(host, pupil->program, CREATE_FILE, pick_place(host, pupil), name, object);
+    if (returned == WB_ACCEPTED && name.length == WB_NAME_BYTES && first_time(host, FULL_NAME))
+        say_name(pupil->program, name, "a name of 60 bytes passes", "");
+    return returned;
+}
+
+/* Writes letters from the offset on, at most so many and all in one block. */
+static uint64_t write_letters(struct host *host, struct pupil *pupil, uint64_t object, uint64_t offset, uint64_t most)
+{
+    uint8_t data[WB_BLOCK_BYTES];
+    uint64_t i, length, in_block = WB_BLOCK_BYTES - offset % WB_BLOCK_BYTES;
+    length = 1 + below(&host->chance, most < in_block ? most : in_block);
+    for (i = 0; i < length; i++)
+        data[i] = (uint8_t)('a' + below(&host->chance, 26));
+    return do_write(host, pupil->program, object, offset, data, length);
+}
+
+uint64_t set_length(struct host *host, struct pupil *pupil)
+{
+    uint64_t object = pick(host, pupil, work_file);
+    if (object == 0)
+        return create_file(host, pupil);
+    return do_setlen(host, pupil->program, object,
+                     below(&host->chance, one_in(&host->chance, 4) ? host->b * WB_BLOCK_BYTES + 1 : 4096));
+}
+
+uint64_t append(struct host *host, struct pupil *pupil)
+{
+    uint64_t object = pick(host, pupil, work_file), length;
+    if (object == 0)
+        return create_file(host, pupil);
+    length = length_at(&host->own, object);
+    if (length > LONG_FILE)
+        return do_setlen(host, pupil->program, object, below(&host->chance, WB_BLOCK_BYTES));
+    return write_letters(host, pupil, object, length, one_in(&host->chance, 3) ? WB_BLOCK_BYTES : 100);
+}
+
+uint64_t overwrite(struct host *host, struct pupil *pupil)
+{
+    uint64_t object = pick(host, pupil, work_file), length, offset;
+    if (object == 0 || length_at(&host->own, object) == 0)
+        return append(host, pupil);
+    length = length_at(&host->own, object);
+    offset = below(&host->chance, length);
+    return write_letters(host, pupil, object, offset, length - offset < 64 ? length - offset : 64);
+}
+
+/* Begins to save a file: the new text goes into a new file first. */
+uint64_t begin_save(struct host *host, struct pupil *pupil)
+{
+    uint64_t returned, object = own_number(host, pupil->program), old = pick(host, pupil, work_file);
+    if (object == host->n || old == 0)
+        return create_file(host, pupil);
+    returned = do_create(host, pupil->program, CREATE_FILE, parent_at(&host->own, old), save_name(&host->chance), object);
+    pupil->saving = returned == WB_ACCEPTED ? CREATED : NOT_SAVING;
+    pupil->fresh = object;
+    pupil->old = old;
+    return returned;
+}
+
+/* The rename displaces the old file. */
+static uint64_t take_place(struct host *host, struct pupil *pupil)
+{
+    uint64_t returned = do_rename(host, pupil->program, parent_at(&host->own, pupil->fresh), name_of(host, pupil->fresh),
+                                  parent_at(&host->own, pupil->old), name_of(host, pupil->old));
+    if (returned != WB_LOG_FULL)
+        pupil->saving = NOT_SAVING;
+    return returned;
+}
+
+/* The new file gets its text, at times a forder puts it before what comes later on the old one, and it takes the old one's
+ * place. */
+uint64_t go_on_saving(struct host *host, struct pupil *pupil)
+{
+    uint64_t returned, list[2];
+    list[0] = pupil->fresh;
+    list[1] = pupil->old;
+    if (pupil->saving == CREATED)
+        returned = write_letters(host, pupil, pupil->fresh, length_at(&host->own, pupil->fresh), WB_BLOCK_BYTES);
+    else if (pupil->saving == WRITTEN && one_in(&host->chance, 2))
+        returned = do_forder(host, pupil->program, list, 2);
+    else
+        return take_place(host, pupil);
+    if (returned == WB_ACCEPTED)
+        pupil->saving = pupil->saving == CREATED ? WRITTEN : ORDERED;
+    return returned;
+}
+
+int is_saving(const struct host *host, struct pupil *pupil)
+{
+    if (!any_file(host, pupil, pupil->fresh) || !work_file(host, pupil, pupil->old))
+        pupil->saving = NOT_SAVING;
+    return pupil->saving != NOT_SAVING;
+}
