@@ -3,7 +3,7 @@
 
 #define OPERATIONS_A_PUPIL 10
 #define TURNS_A_REST 100
-#define TURNS_A_LOOK 120
+#define TURNS_A_LOOK 60
 
 void gather(struct class *class, uint64_t operations)
 {

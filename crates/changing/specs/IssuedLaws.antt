@@ -42,12 +42,12 @@ module _ {n b m p : ℕ} {s v l : List ℕ} (h : Admitted n b m s v l) {o : Oper
       })
 
 -- The accepted case of every change: the buffers store what issuing its operations leaves.
-pub accepted-outcome : {n b m p : ℕ} {s v l : List ℕ} {c : Call} {own count : ℕ} (ch : Change n b m p s v l c own count) (k : ℕ)
+pub changed-outcome : {n b m p : ℕ} {s v l : List ℕ} {c : Call} {own count : ℕ} (ch : Change n b m p s v l c own count) (k : ℕ)
     → k ≡ changeNumber (geometry n b m) (readLog m l) p own count → k ≡ 0 → (os : List Operation) → issues (readVolume n b v) c ≡ os
     → (log view : List ℕ) → encodeModel (geometry n b m) (performAll (issuing p os) (modelIn n b m s v l)) ≡ buffers s view log
     → (r : Value) → r ≡ value 0 (readLog m l .next)
     → given (r .returned) (r .value ∷ []) [] (buffers s view log) ≡ step (geometry n b m) c (buffers s v l)
-accepted-outcome {n} {b} {m} {p} {s} {v} {l} {c} ch k e z os all log view left r w =
+changed-outcome {n} {b} {m} {p} {s} {v} {l} {c} ch k e z os all log view left r w =
     let g = geometry n b m in
     let y = modelIn n b m s v l in
     let a = answer 0 (readLog m l .next ∷ []) [] in
@@ -67,4 +67,4 @@ issued-outcome {n} {b} {m} {p} {s} {v} {l} ch k e z o one d q x log view u r w =
     let left : encodeModel (geometry n b m) (performAll (issuing p (o ∷ [])) (modelIn n b m s v l)) ≡ buffers s view log =
     ap (encodeModel (geometry n b m)) (issuing-one p o (modelIn n b m s v l))
     ∙ (λ j. record { server = ch .held .server .stored j; view = sym (t .view) j; log = sym (t .log) j }) in
-    accepted-outcome ch k e z (o ∷ []) one log view left r (w ∙ ap (value 0) (u .gives))
+    changed-outcome ch k e z (o ∷ []) one log view left r (w ∙ ap (value 0) (u .gives))
