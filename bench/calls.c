@@ -115,15 +115,17 @@ static uint64_t random_below(uint64_t bound)
 static struct wb_value attempt(uint64_t program)
 {
     char name[16], other[16];
-    uint64_t file = FIRST_FILE + random_below(FILES - 8), unused = LAST_FILE + 1 + random_below(N - 2 - LAST_FILE), at = random_below(1024);
+    const uint8_t *named = (uint8_t *)name, *unnamed = (uint8_t *)other;
+    uint64_t file = FIRST_FILE + random_below(FILES - 8), unused = LAST_FILE + 1 + random_below(N - 2 - LAST_FILE);
     uint64_t length = (uint64_t)sprintf(name, "f%d", (int)file), other_length = (uint64_t)sprintf(other, "f%d", (int)unused);
-    uint8_t objects[4] = {(uint8_t)file, 0, (uint8_t)parent_of(file), 0};
+    uint64_t at = random_below(1024), parent = parent_of(file);
+    uint8_t objects[4] = {(uint8_t)file, 0, (uint8_t)parent, 0};
     switch (random_below(12)) {
-    case 0: return wb_create(LENT, program, parent_of(file), (uint8_t *)other, other_length, unused);
-    case 1: return wb_mkdir(LENT, program, parent_of(file), (uint8_t *)other, other_length, unused);
-    case 2: return wb_remove(LENT, program, parent_of(unused), (uint8_t *)other, other_length);
-    case 3: return wb_rename(LENT, program, parent_of(file), (uint8_t *)name, length, parent_of(file), (uint8_t *)other, other_length);
-    case 4: return wb_rename(LENT, program, parent_of(file), (uint8_t *)other, other_length, parent_of(file), (uint8_t *)name, length);
+    case 0: return wb_create(LENT, program, parent, unnamed, other_length, unused);
+    case 1: return wb_mkdir(LENT, program, parent, unnamed, other_length, unused);
+    case 2: return wb_remove(LENT, program, parent_of(unused), unnamed, other_length);
+    case 3: return wb_rename(LENT, program, parent, named, length, parent, unnamed, other_length);
+    case 4: return wb_rename(LENT, program, parent, unnamed, other_length, parent, named, length);
     case 5: return wb_write(LENT, program, file, wb_stat(LENT, program, file).length, own, 1 + at);
     case 6: return wb_setlen(LENT, program, file, 2048 + at);
     case 7: return wb_forder(LENT, program, objects, sizeof objects);
@@ -131,7 +133,7 @@ static struct wb_value attempt(uint64_t program)
     }
 }
 
-/* So many operations wait, of programs 1 and 3 to 31; the last but one is a forder that ties the root to all directories, the last an
+/* So many operations wait, of programs 1 and 3 to 31; the last but one is a forder of the root and directories 1 to 7, the last an
  * overwrite of the quiet file. */
 static void make_waiting(uint64_t count)
 {
@@ -267,8 +269,8 @@ static const struct timed changes[] = {
     {"create", create, 1, 0}, {"mkdir", make, 1, 0}, {"remove", remove_of, 1, 0}, {"rename that displaces", rename_of, 1, 0},
     {"write, overwrite", overwrite, 1, 0}, {"write, append", append, 1, 0}, {"setlen", setlen, 1, 0}, {"forder of 8", forder, 1, 0}};
 static const struct timed sends[] = {
-    {"push", push, 1, 0}, {"push behind another", push_behind, 1, 0}, {"fsync of one", sync_few, 1, 0}, {"fsync of many", sync_many, 0, 0},
-    {"cut", cut, 0, 0}};
+    {"push", push, 1, 0}, {"push behind another", push_behind, 1, 0}, {"fsync of one", sync_few, 1, 0},
+    {"fsync of many", sync_many, 0, 0}, {"cut", cut, 0, 0}};
 static const struct timed losses[] = {{"take", take, 1, 0}, {"renew", renew, 1, 0}};
 static const struct timed beginnings[] = {{"format", format, 1, 1}, {"mount", mount, 1, 0}};
 
@@ -299,7 +301,8 @@ static void say_more(void)
         memcpy(left_view, server, VOLUME);
         copy = lower(copy, now() - start);
     }
-    printf("\na volume copied by memcpy: %.0f; the fsync of many sends %lu of 1,024\n", copy, (unsigned long)wb_fsync(LENT, 1, 0, M).value);
+    printf("\na volume copied by memcpy: %.0f; the fsync of many sends %lu of 1,024\n", copy,
+           (unsigned long)wb_fsync(LENT, 1, 0, M).value);
 }
 
 int main(int count, char **arguments)
