@@ -11,7 +11,15 @@ use admission::room::room_refusal;
 use returned::ACCEPTED;
 
 // The refusal of a change that issues so many operations and whose own table gives a number; 0 where it is accepted.
-pub fn change_refusal(log: &[u8], n: usize, b: usize, m: usize, program: usize, own: usize, count: usize) -> usize
+pub fn change_refusal(
+    log: &[u8],
+    n: usize,
+    b: usize,
+    m: usize,
+    program: usize,
+    own: usize,
+    count: usize,
+) -> usize
     requires { ⌜ Logged n b m (now log) ⌝ }
     requires { ⌜ count ≤ 1024 ⌝ }
     ensures { λ r. ⌜ r ≡ changeNumber (geometry n b m) (readLog m (now (log .entry))) program own count ⌝ }
