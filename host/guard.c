@@ -1,6 +1,6 @@
 /* Random calls through the library with every buffer beside an unreadable page, each compared with the second program: its
- * answer, and every byte of the buffers. A touch outside a buffer, or a write to one that is lent for reading, ends the run by a
- * signal. Run it with ./guard. */
+ * answer, and every byte of the buffers (of one above 2 MiB the first and the last 128 KiB). A touch outside a buffer, or a
+ * write to one that is lent for reading, ends the run by a signal. Run it with ./guard. */
 #include <inttypes.h>
 #include <stdio.h>
 #include <stdlib.h>
@@ -206,7 +206,7 @@ static void make(void)
     if (returned >= RETURNED || !HAS(shapes[call->entry].returned, returned))
         stop(call, answers, "the entry cannot return this number");
     counts[call->entry][returned]++;
-    heed(call, answers[PROVED].code.returned);
+    note_answer(call, answers[PROVED].code.returned);
 }
 
 /* ---- The run ---- */
@@ -270,7 +270,7 @@ static void run(enum placement chosen, uint64_t until)
 {
     uint64_t left = 0;
     placement = chosen;
-    sow(progress.seed * 2 + chosen);
+    set_seed(progress.seed * 2 + chosen);
     while (progress.made < until) {
         if (left-- == 0) {
             left = choose_geometry();

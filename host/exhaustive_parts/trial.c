@@ -2,6 +2,7 @@
 #include <stdarg.h>
 #include <stdlib.h>
 #include <string.h>
+#include "numbers.h"
 
 enum { SLOT_BYTES = 1048, STATE_WAITING = 1, STATE_LOST = 2 };
 
@@ -174,16 +175,11 @@ void unchanged(const char *what, const struct buffers *got, const struct buffers
     same("the log", got->log, wanted->log, LOG);
 }
 
-static uint64_t number(const uint8_t *at)
-{
-    return at[0] | (uint64_t)at[1] << 8 | (uint64_t)at[2] << 16 | (uint64_t)at[3] << 24;
-}
-
 static void check_slot(const uint8_t *slot, uint64_t state, uint64_t dependents, uint64_t sequence)
 {
-    equal("the state of a slot", number(slot), state);
-    equal("the sequence number of a slot", number(slot + 10), sequence);
-    equal("the dependents of a slot", number(slot + 4), dependents);
+    equal("the state of a slot", number_at(slot, 4), state);
+    equal("the sequence number of a slot", number_at(slot + 10, 4), sequence);
+    equal("the dependents of a slot", number_at(slot + 4, 4), dependents);
 }
 
 /* The used slots are those of the set, in issue order; without dependents they are lost, with them they wait. */
@@ -192,8 +188,8 @@ static void check_log(const uint8_t *log, uint32_t marks, unsigned set, const ui
     static const uint8_t zeros[LOG];
     const uint8_t *slot = log + 8;
     uint64_t i;
-    equal("the next sequence number", number(log), now.issued + 1);
-    equal("the marks", number(log + 4), marks);
+    equal("the next sequence number", number_at(log, 4), now.issued + 1);
+    equal("the marks", number_at(log + 4, 4), marks);
     for (i = 0; i < now.issued; i++)
         if (in(set, i)) {
             check_slot(slot, dependents ? STATE_WAITING : STATE_LOST, dependents ? dependents[i] : 0, i + 1);

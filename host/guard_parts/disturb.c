@@ -236,7 +236,7 @@ void disturb(void)
 }
 
 /* Keeps a moment now and then when the form is good; goes back to one when it has been broken for long. */
-void heed(const struct call *call, uint64_t returned)
+void note_answer(const struct call *call, uint64_t returned)
 {
     const int usual = call->length[SERVER] == present_length(SERVER) && call->length[VIEW] == present_length(VIEW)
         && call->length[LOG] == present_length(LOG) && call->number[B] == present.b;

@@ -4,6 +4,7 @@
 #define GUARD_H
 
 #include <stddef.h>
+#include "numbers.h"
 #include "second_calls.h"
 
 #define ENTRIES(DO) \
@@ -36,7 +37,7 @@ extern const char *const number_names[NUMBERS];
 extern const char *const buffer_names[BUFFERS];
 
 /* ---- Random numbers, from a seed ---- */
-void sow(uint64_t seed);
+void set_seed(uint64_t seed);
 uint64_t any(void);
 uint64_t below(uint64_t limit);
 int chance(uint64_t in, uint64_t of);
@@ -83,8 +84,6 @@ enum kind { FREE, FILE_KIND, DIRECTORY };
 #define SLOT_BYTES 1048
 #define LOG_HEAD 8
 uint64_t present_length(enum buffer buffer);
-uint64_t number_at(const uint8_t *at, int bytes);
-void put_number(uint8_t *at, uint64_t number, int bytes);
 const uint8_t *object_at(uint64_t object); /* an entry of the view */
 const uint8_t *slot_at(uint64_t slot);
 uint64_t parent_of(uint64_t object);
@@ -113,6 +112,6 @@ void make_record(uint8_t *record, uint64_t sequence, uint64_t n, uint64_t longes
 void make_volume(void);   /* a server volume with content */
 void begin_moments(void); /* forgets what was before */
 void disturb(void);
-void heed(const struct call *call, uint64_t returned);
+void note_answer(const struct call *call, uint64_t returned);
 
 #endif

@@ -1,20 +1,16 @@
 /* Random numbers, and what the present buffers hold. The copies are read; they may be damaged, so every number is possible. */
 #include "guard.h"
 
-/* The splitmix64 sequence. */
-static uint64_t sown;
+static uint64_t random_state;
 
-void sow(uint64_t seed)
+void set_seed(uint64_t seed)
 {
-    sown = seed;
+    random_state = seed;
 }
 
 uint64_t any(void)
 {
-    uint64_t mixed = sown += UINT64_C(0x9e3779b97f4a7c15);
-    mixed = (mixed ^ mixed >> 30) * UINT64_C(0xbf58476d1ce4e5b9);
-    mixed = (mixed ^ mixed >> 27) * UINT64_C(0x94d049bb133111eb);
-    return mixed ^ mixed >> 31;
+    return splitmix64(&random_state);
 }
 
 uint64_t below(uint64_t limit)
@@ -32,20 +28,6 @@ struct geometry present;
 uint64_t present_length(enum buffer buffer)
 {
     return buffer == LOG ? WB_LOG_BYTES(present.m) : WB_VOLUME_BYTES(present.n, present.b);
-}
-
-uint64_t number_at(const uint8_t *at, int bytes)
-{
-    uint64_t number = 0;
-    while (bytes-- > 0)
-        number = number << 8 | at[bytes];
-    return number;
-}
-
-void put_number(uint8_t *at, uint64_t number, int bytes)
-{
-    for (; bytes-- > 0; number >>= 8)
-        *at++ = (uint8_t)number;
 }
 
 const uint8_t *object_at(uint64_t object)

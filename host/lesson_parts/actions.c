@@ -44,8 +44,8 @@ static uint64_t look(struct host *host, struct pupil *pupil)
 
 static uint64_t list_folder(struct host *host, struct pupil *pupil)
 {
-    uint64_t box = pick(host, pupil, one_in(&host->chance, 12) ? any_folder : own_box);
-    return do_list(host, pupil->program, box && one_in(&host->chance, 3) ? box : pick_place(host, pupil));
+    uint64_t subfolder = pick(host, pupil, one_in(&host->chance, 12) ? any_folder : own_subfolder);
+    return do_list(host, pupil->program, subfolder && one_in(&host->chance, 3) ? subfolder : pick_place(host, pupil));
 }
 
 static uint64_t see_status(struct host *host, struct pupil *pupil)
@@ -75,8 +75,8 @@ uint64_t act(struct host *host, struct pupil *pupil)
         uint64_t weight;
         action *does;
     } actions[] = {{16, create_file}, {52, append}, {48, overwrite}, {8, set_length}, {14, begin_save}, {8, move_file},
-        {8, rename_file}, {8, remove_file}, {5, make_box}, {4, rename_box}, {4, remove_box}, {6, order_files}, {1, make_sure},
-        {2, try_long_name}, {50, look}, {34, list_folder}, {52, see_status}, {68, read_file}};
+        {8, rename_file}, {8, remove_file}, {5, make_subfolder}, {4, rename_subfolder}, {4, remove_subfolder}, {6, order_files},
+        {1, make_sure}, {2, try_long_name}, {50, look}, {34, list_folder}, {52, see_status}, {68, read_file}};
     uint64_t i, weights = 0, left;
     if (is_saving(host, pupil) && !one_in(&host->chance, 4))
         return go_on_saving(host, pupil);

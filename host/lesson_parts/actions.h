@@ -12,7 +12,7 @@ action create_file, append, overwrite, set_length, begin_save, go_on_saving;
 /* Whether the pupil is saving a file. It gives up where another one of its group has moved or removed the old file. */
 int is_saving(const struct host *host, struct pupil *pupil);
 
-/* Files and boxes, which are directories, get new names and places (filing.c). */
-action make_box, rename_box, remove_box, move_file, rename_file, remove_file;
+/* Files and subfolders get new names and places (filing.c). */
+action make_subfolder, rename_subfolder, remove_subfolder, move_file, rename_file, remove_file;
 
 #endif

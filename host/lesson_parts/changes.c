@@ -1,6 +1,7 @@
 /* The changes, and forder. */
 #include "calls.h"
 #include <string.h>
+#include "numbers.h"
 
 static struct operation fresh(const struct host *host, uint64_t program, enum kind kind)
 {
@@ -162,8 +163,7 @@ uint64_t do_forder(struct host *host, uint64_t program, const uint64_t *list, ui
     operation.list_length = count;
     for (i = 0; i < count; i++) {
         operation.list[i] = list[i];
-        lent[2 * i] = (uint8_t)list[i];
-        lent[2 * i + 1] = (uint8_t)(list[i] >> 8);
+        put_number(lent + 2 * i, list[i], 2);
     }
     wanted = expected(host, &operation, 0);
     CALL(host, ENTRY_FORDER, answer, wb_forder(LENT(host), program, lent, 2 * count));

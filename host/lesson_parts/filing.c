@@ -12,17 +12,17 @@ uint64_t remove_file(struct host *host, struct pupil *pupil)
     return remove_object(host, pupil, pick(host, pupil, own_waste));
 }
 
-uint64_t remove_box(struct host *host, struct pupil *pupil)
+uint64_t remove_subfolder(struct host *host, struct pupil *pupil)
 {
-    return remove_object(host, pupil, pick(host, pupil, own_box));
+    return remove_object(host, pupil, pick(host, pupil, own_subfolder));
 }
 
-uint64_t make_box(struct host *host, struct pupil *pupil)
+uint64_t make_subfolder(struct host *host, struct pupil *pupil)
 {
     uint64_t object = own_number(host, pupil->program), place = one_in(&host->chance, 4) ? pupil->shared : pupil->folder;
     if (object == host->n)
-        return remove_box(host, pupil);
-    return do_create(host, pupil->program, MAKE_DIRECTORY, place, box_name(&host->chance), object);
+        return remove_subfolder(host, pupil);
+    return do_create(host, pupil->program, MAKE_DIRECTORY, place, subfolder_name(&host->chance), object);
 }
 
 /* A file of its own goes into the group's folder, or from there into its own. */
@@ -50,7 +50,7 @@ uint64_t rename_file(struct host *host, struct pupil *pupil)
     return rename_object(host, pupil, pick(host, pupil, own_file), file_name(&host->chance));
 }
 
-uint64_t rename_box(struct host *host, struct pupil *pupil)
+uint64_t rename_subfolder(struct host *host, struct pupil *pupil)
 {
-    return rename_object(host, pupil, pick(host, pupil, own_box), box_name(&host->chance));
+    return rename_object(host, pupil, pick(host, pupil, own_subfolder), subfolder_name(&host->chance));
 }

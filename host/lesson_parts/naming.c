@@ -80,7 +80,7 @@ struct name file_name(struct chance *chance)
     return one_in(chance, 12) ? stretched(name, WB_NAME_BYTES) : name;
 }
 
-struct name box_name(struct chance *chance) { return numbered("box", 1 + below(chance, 4)); }
+struct name subfolder_name(struct chance *chance) { return numbered("box", 1 + below(chance, 4)); }
 struct name save_name(struct chance *chance) { return numbered(being_saved, 1 + below(chance, 99)); }
 int is_save_name(struct name name) { return memcmp(name.bytes, being_saved, sizeof being_saved - 1) == 0; }
 struct name long_name(struct chance *chance) { return stretched(short_name(chance), WB_NAME_BYTES + 1); }

@@ -23,7 +23,7 @@ struct name shared_name(uint64_t group);
 struct name file_name(struct chance *chance);
 
 /* A name for a directory at random. */
-struct name box_name(struct chance *chance);
+struct name subfolder_name(struct chance *chance);
 
 /* The name of a file that is to take the place of another. */
 struct name save_name(struct chance *chance);

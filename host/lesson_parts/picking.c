@@ -22,7 +22,7 @@ int own_waste(const struct host *host, const struct pupil *pupil, uint64_t objec
         && (pupil->saving == NOT_SAVING || object != pupil->fresh);
 }
 
-int own_box(const struct host *host, const struct pupil *pupil, uint64_t object)
+int own_subfolder(const struct host *host, const struct pupil *pupil, uint64_t object)
 {
     return kind_at(&host->own, object) == DIRECTORY_ENTRY && object % WB_PROGRAMS == pupil->program
         && parent_at(&host->own, object) != 0;
@@ -49,6 +49,6 @@ uint64_t pick_to_see(struct host *host, const struct pupil *pupil)
 
 uint64_t pick_place(struct host *host, const struct pupil *pupil)
 {
-    uint64_t box = one_in(&host->chance, 5) ? pick(host, pupil, own_box) : 0;
-    return box ? box : one_in(&host->chance, 4) ? pupil->shared : pupil->folder;
+    uint64_t subfolder = one_in(&host->chance, 5) ? pick(host, pupil, own_subfolder) : 0;
+    return subfolder ? subfolder : one_in(&host->chance, 4) ? pupil->shared : pupil->folder;
 }

@@ -11,7 +11,7 @@ sort any_file, any_folder;
 sort own_file;  /* its number is one of the program's own */
 sort work_file; /* own, or in the group's folder; neither is one that is being saved */
 sort own_waste; /* an own file that may be removed, one of a save that was given up too */
-sort own_box;   /* a directory of its own below its folders */
+sort own_subfolder;   /* a directory of its own below its folders */
 
 /* An object at random of this sort; 0, the root, if there is none. */
 uint64_t pick(struct host *host, const struct pupil *pupil, sort *is);

@@ -1,6 +1,7 @@
 /* The questions, each with what the host's own view answers. */
 #include "calls.h"
 #include <string.h>
+#include "numbers.h"
 
 #define READ_BYTES 4096
 #define FILLER 0xa5 /* what a buffer holds before the call: bytes that are not written have to stay */
@@ -56,8 +57,7 @@ static uint64_t own_listing(const struct host *host, uint64_t directory, uint8_t
         if (kind_at(&host->own, object) == FREE || parent_at(&host->own, object) != directory)
             continue;
         name = name_at(&host->own, object, &length);
-        listing[at] = (uint8_t)object;
-        listing[at + 1] = (uint8_t)(object >> 8);
+        put_number(listing + at, object, 2);
         listing[at + 2] = (uint8_t)kind_at(&host->own, object);
         listing[at + 3] = (uint8_t)length;
         memcpy(listing + at + 4, name, length);

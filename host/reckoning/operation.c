@@ -1,5 +1,6 @@
 #include "operation.h"
 #include <string.h>
+#include "numbers.h"
 
 int operation_of_record(const uint8_t *buffer, uint64_t length, struct operation *operation)
 {
@@ -24,7 +25,7 @@ int operation_of_record(const uint8_t *buffer, uint64_t length, struct operation
     memcpy(operation->second_name, buffer + loss.second_name_at, loss.second_name_len);
     memcpy(operation->data, buffer + loss.data_at, loss.data_len);
     for (i = 0; i < operation->list_length; i++)
-        operation->list[i] = buffer[loss.list_at + 2 * i] + 256u * buffer[loss.list_at + 2 * i + 1];
+        operation->list[i] = number_at(buffer + loss.list_at + 2 * i, 2);
     return 1;
 }
 

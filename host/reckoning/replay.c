@@ -1,5 +1,6 @@
 #include "replay.h"
 #include <string.h>
+#include "numbers.h"
 
 /* The places of an entry's fields. */
 enum { KIND_AT = 0, NAME_LENGTH_AT = 1, PARENT_AT = 2, NAME_AT = 4, LENGTH_AT = 64, DATA_AT = 68 };
@@ -9,21 +10,9 @@ static uint8_t *entry(const struct volume *volume, uint64_t object)
     return volume->bytes + object * (DATA_AT + WB_BLOCK_BYTES * volume->b);
 }
 
-static uint64_t number(const uint8_t *bytes, int width)
-{
-    return width == 0 ? 0 : bytes[0] + 256 * number(bytes + 1, width - 1);
-}
-
-static void put_number(uint8_t *bytes, int width, uint64_t value)
-{
-    int i;
-    for (i = 0; i < width; i++)
-        bytes[i] = (uint8_t)(value >> (8 * i));
-}
-
 uint64_t kind_at(const struct volume *volume, uint64_t object) { return entry(volume, object)[KIND_AT]; }
-uint64_t parent_at(const struct volume *volume, uint64_t object) { return number(entry(volume, object) + PARENT_AT, 2); }
-uint64_t length_at(const struct volume *volume, uint64_t object) { return number(entry(volume, object) + LENGTH_AT, 4); }
+uint64_t parent_at(const struct volume *volume, uint64_t object) { return number_at(entry(volume, object) + PARENT_AT, 2); }
+uint64_t length_at(const struct volume *volume, uint64_t object) { return number_at(entry(volume, object) + LENGTH_AT, 4); }
 
 const uint8_t *name_at(const struct volume *volume, uint64_t object, uint64_t *length)
 {
@@ -113,7 +102,7 @@ static void clear(struct volume *volume, uint64_t object)
 static void put_name(uint8_t *at, uint64_t parent, const uint8_t *name, uint64_t length)
 {
     at[NAME_LENGTH_AT] = (uint8_t)length;
-    put_number(at + PARENT_AT, 2, parent);
+    put_number(at + PARENT_AT, parent, 2);
     memset(at + NAME_AT, 0, WB_NAME_BYTES);
     memcpy(at + NAME_AT, name, length);
 }
@@ -122,7 +111,7 @@ static void put_length(uint8_t *at, uint64_t before, uint64_t length)
 {
     if (length < before)
         memset(at + DATA_AT + length, 0, before - length);
-    put_number(at + LENGTH_AT, 4, length);
+    put_number(at + LENGTH_AT, length, 4);
 }
 
 /* What an operation that applies leaves. */
