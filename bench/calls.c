@@ -15,7 +15,7 @@
 #define TEXT(text) (const uint8_t *)(text), sizeof(text) - 1
 #define EITHER(entry, ...) (by_second ? second_##entry(__VA_ARGS__).returned : wb_##entry(__VA_ARGS__).returned)
 
-enum { DIRECTORIES = 15, FILES = 112, FIRST_FILE = DIRECTORIES + 1, LAST_FILE = DIRECTORIES + FILES, QUIET = LAST_FILE };
+enum { DIRECTORIES = 15, FILES = 112, FIRST_FILE = DIRECTORIES + 1, LAST_FILE = DIRECTORIES + FILES, QUIET = LAST_FILE, SHORTER = LAST_FILE - 3 };
 
 static uint8_t server[VOLUME], view[VOLUME], slots[LOG], own[65536];
 static uint8_t saved_server[VOLUME], saved_view[VOLUME], saved_slots[LOG], saved_own[sizeof own];
@@ -53,6 +53,7 @@ static uint64_t remove_of(void) { return EITHER(remove, LENT, 1, 15, TEXT("f126"
 static uint64_t rename_of(void) { return EITHER(rename, LENT, 1, 15, TEXT("f126"), 15, TEXT("f125")); }
 static uint64_t overwrite(void) { return EITHER(write, LENT, 1, QUIET, 1024, own, 1024); }
 static uint64_t append(void) { return EITHER(write, LENT, 1, QUIET, 2048, own, 1024); }
+static uint64_t across(void) { return EITHER(write, LENT, 1, SHORTER, 1024, own, 1024); }
 static uint64_t setlen(void) { return EITHER(setlen, LENT, 1, QUIET, 0); }
 static uint64_t forder(void) { return EITHER(forder, LENT, 1, TEXT("\1\0\2\0\3\0\4\0\5\0\6\0\7\0\10\0")); }
 static uint64_t push(void) { return EITHER(push, LENT, last); }
@@ -81,7 +82,8 @@ static void sent(struct wb_value issued, const char *what)
 
 static uint64_t parent_of(uint64_t file) { return file >= LAST_FILE - 7 ? 15 : 1 + file % 14; }
 
-/* Directories 1 to 15 in the root, and 112 files of 2,048 bytes in them, all on the server; eight of the files in directory 15. */
+/* Directories 1 to 15 in the root, and 112 files of 2,048 bytes in them, one of 1,536, all on the server; eight of the files in
+ * directory 15. */
 static void make_volume(void)
 {
     char name[16];
@@ -97,7 +99,7 @@ static void make_volume(void)
         }
         sent(wb_create(LENT, 1, parent_of(i), (uint8_t *)name, length, i), "create");
         sent(wb_write(LENT, 1, i, 0, own, 1024), "write");
-        sent(wb_write(LENT, 1, i, 1024, own, 1024), "write");
+        sent(wb_write(LENT, 1, i, 1024, own, i == SHORTER ? 512 : 1024), "write");
     }
     expect(mount(), WB_ACCEPTED, "mount");
 }
@@ -268,13 +270,14 @@ static const struct timed questions[] = {
 static const struct timed changes[] = {
     {"create", create, 1, 0}, {"mkdir", make, 1, 0}, {"remove", remove_of, 1, 0}, {"rename that displaces", rename_of, 1, 0},
     {"write, overwrite", overwrite, 1, 0}, {"write, append", append, 1, 0}, {"setlen", setlen, 1, 0}, {"forder of 8", forder, 1, 0}};
+static const struct timed twofold[] = {{"write, across the end", across, 1, 0}};
 static const struct timed sends[] = {
     {"push", push, 1, 0}, {"push behind another", push_behind, 1, 0}, {"fsync of one", sync_few, 1, 0},
     {"fsync of many", sync_many, 0, 0}, {"cut", cut, 0, 0}};
 static const struct timed losses[] = {{"take", take, 1, 0}, {"renew", renew, 1, 0}};
 static const struct timed beginnings[] = {{"format", format, 1, 1}, {"mount", mount, 1, 0}};
 
-/* All calls with so many waiting, or lost; a change is the last of them. */
+/* All calls with so many waiting, or lost; a change is the last of them, a write across the end the last two. */
 static void measure_with(uint64_t waiting, const char *state, double goal)
 {
     make_waiting(waiting);
@@ -284,6 +287,9 @@ static void measure_with(uint64_t waiting, const char *state, double goal)
     if (waiting == M)
         make_waiting(M - 1);
     measure_all(changes, COUNT(changes), state, goal);
+    if (waiting == M)
+        make_waiting(M - 2);
+    measure_all(twofold, COUNT(twofold), state, goal);
     make_waiting(waiting ? waiting : 1);
     measure_all(sends, COUNT(sends), state, goal);
     make_lost(waiting);

@@ -3,7 +3,9 @@
 use crate::random::Random;
 use second::geometry::Geometry;
 use second::log::Log;
+use second::order::with_predecessors;
 use second::player::{Outcome, Player};
+use second::record::Record;
 use second::script::to_hexadecimal;
 use second::volume::Volume;
 
@@ -77,6 +79,13 @@ impl Builder {
     pub fn log(&self) -> Option<Log> {
         let geometry = self.geometry();
         Log::read(&geometry, &self.player.areas[2][..geometry.log_length()])
+    }
+
+    /// The sends that an fsync of the object needs.
+    pub fn needed(&self, object: u64) -> u64 {
+        let log = self.log().unwrap_or_default();
+        let named = |record: &Record| object < 65_536 && record.has_operand(object as u16);
+        with_predecessors(&log.waiting(), named).len() as u64
     }
 
     pub fn waiting(&self) -> Vec<u64> {

@@ -199,9 +199,7 @@ fn push(builder: &mut Builder) -> String {
 /// Sends around the d that an fsync needs.
 fn fsync(builder: &mut Builder, program: u64) -> String {
     let object = object(builder);
-    let log = builder.log().unwrap_or_default();
-    let named = |record: &second::record::Record| object < 65_536 && record.has_operand(object as u16);
-    let d = second::order::with_predecessors(&log.waiting(), named).len() as u64;
+    let d = builder.needed(object);
     let sends = builder.random.pick(&[d, d, d + 1, d.saturating_sub(1), 0, u64::MAX]);
     format!("fsync {program} {object} {sends}")
 }

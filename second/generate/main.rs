@@ -5,6 +5,7 @@
 mod bad;
 mod builder;
 mod damage;
+mod ends;
 mod limits;
 mod logs;
 mod pairs;
@@ -19,10 +20,11 @@ use std::io::Write;
 type Maker = fn(&mut Builder);
 
 /// The kinds of script, and what makes each.
-const KINDS: [(&str, Maker); 10] = [
+const KINDS: [(&str, Maker); 11] = [
     ("run", runs::run),
     ("fill", runs::fill),
     ("files", runs::files),
+    ("ends", ends::ends),
     ("limits", limits::limits),
     ("damage", damage::damage),
     ("sizes", damage::sizes),

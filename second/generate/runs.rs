@@ -40,7 +40,7 @@ pub fn fill(builder: &mut Builder) {
             || Style { changes: 84, questions: 13, sends: 3, losses: 0, cuts: 0, calls: 10, takes: 0, programs: 9 };
         for _ in 0..9 {
             play(builder, style());
-            if builder.log().is_some_and(|log| log.full(&builder.geometry())) {
+            if builder.log().is_some_and(|log| log.free_slots(&builder.geometry()) == 0) {
                 break;
             }
         }
@@ -123,7 +123,7 @@ pub fn populate(builder: &mut Builder) {
     }
 }
 
-fn send_all(builder: &mut Builder) {
+pub fn send_all(builder: &mut Builder) {
     for sequence in builder.waiting() {
         builder.say(&format!("push {sequence}"));
     }

@@ -1,12 +1,14 @@
 //! Measures what a corpus of scripts reaches: every call accepted and refused with each number that it can give,
-//! and every kind of pair in the precedence rule. Give it script files; it prints a table, then what is missing,
-//! and ends with 1 if anything is.
+//! every kind of pair in the precedence rule, and writes across the end of a file. Give it script files; it prints a
+//! table, then what is missing, and ends with 1 if anything is.
 #![forbid(unsafe_code)]
 
+mod across;
 mod calls;
 mod pairs;
 mod sends;
 
+use across::Across;
 use calls::Calls;
 use pairs::Pairs;
 use second::player::{Outcome, Player};
@@ -20,6 +22,7 @@ struct Reach {
     calls: Calls,
     pairs: Pairs,
     sends: Sends,
+    across: Across,
     lines: usize,
     bad_lines: usize,
 }
@@ -29,6 +32,7 @@ impl Reach {
     fn play(&mut self, script: &[u8]) {
         let mut player = Player::default();
         self.pairs.begin();
+        self.across.begin();
         for line in lines(script) {
             self.lines += 1;
             let before = player.clone();
@@ -64,6 +68,7 @@ impl Reach {
         if let (Some(old), Some(new)) = (old, new) {
             self.pairs.note(name, arguments, code, &old, &new);
             self.sends.note(name, arguments, code, damaged, &old);
+            self.across.note(name, arguments, code, &mut before, (&old, &new));
         }
         if name == "record" {
             self.sends.note_record(arguments, code);
@@ -74,6 +79,7 @@ impl Reach {
         let mut missing = self.calls.missing();
         missing.extend(self.pairs.missing());
         missing.extend(self.sends.missing());
+        missing.extend(self.across.missing());
         if self.bad_lines == 0 {
             missing.push("a bad line".to_string());
         }
@@ -90,7 +96,7 @@ fn main() -> std::io::Result<()> {
     let missing = reach.missing();
     let mut text =
         format!("{} scripts, {} lines, {} ending in a bad line\n", files.len(), reach.lines, reach.bad_lines);
-    text += &(reach.calls.table() + &reach.pairs.table() + &reach.sends.table());
+    text += &(reach.calls.table() + &reach.pairs.table() + &reach.sends.table() + &reach.across.table());
     missing.iter().for_each(|what| text += &format!("missing: {what}\n"));
     if missing.is_empty() {
         text += "nothing is missing\n";

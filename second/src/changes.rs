@@ -1,4 +1,5 @@
-//! The changes and forder: each alters the view, takes one sequence number and waits (document 01, "Calls").
+//! The changes and forder: each alters the view, takes one sequence number and waits (document 01, "Calls"); a write
+//! across the end of a file is two such operations (document 02, K1).
 
 use crate::bytes::get_u16;
 use crate::geometry::BLOCK;
@@ -31,8 +32,8 @@ fn make(lent: &mut Lent, kind: Kind, program: u64, parent: u64, name: &[u8], obj
         (Refusal::NoObject, &|| now.view().is_free(place)),
         (Refusal::WrongKind, &|| now.view().is_file(place)),
         (Refusal::Taken, &|| now.view().seek(place, name).is_some() || !now.view().is_free(number)),
-        (Refusal::LogFull, &|| now.log_full()),
-        (Refusal::Spent, &|| now.spent()),
+        (Refusal::LogFull, &|| now.log_full(1)),
+        (Refusal::Spent, &|| now.spent(1)),
     ])?;
     let record = Record { object: object as u16, parent: parent as u16, name: name.to_vec(), ..Record::blank(kind) };
     let (geometry, log) = now.keep();
@@ -55,8 +56,8 @@ pub fn remove(lent: &mut Lent, program: u64, parent: u64, name: &[u8]) -> Result
         (Refusal::NoObject, &|| now.view().is_free(place) || lacks(&now, place, name)),
         (Refusal::WrongKind, &|| now.view().is_file(place)),
         (Refusal::NotEmpty, &|| found().is_some_and(|object| now.view().has_children(object))),
-        (Refusal::LogFull, &|| now.log_full()),
-        (Refusal::Spent, &|| now.spent()),
+        (Refusal::LogFull, &|| now.log_full(1)),
+        (Refusal::Spent, &|| now.spent(1)),
     ])?;
     let object = found().unwrap_or(0) as u16;
     let record = Record { object, parent: parent as u16, name: name.to_vec(), ..Record::blank(Kind::Remove) };
@@ -130,8 +131,8 @@ pub fn rename(
         (Refusal::NoObject, &|| sides.no_object()),
         (Refusal::WrongKind, &|| sides.wrong_kind()),
         (Refusal::NotEmpty, &|| sides.not_empty()),
-        (Refusal::LogFull, &|| now.log_full()),
-        (Refusal::Spent, &|| now.spent()),
+        (Refusal::LogFull, &|| now.log_full(1)),
+        (Refusal::Spent, &|| now.spent(1)),
     ])?;
     let record = Record {
         object: sides.object().unwrap_or(0) as u16,
@@ -146,10 +147,12 @@ pub fn rename(
     Ok(lent.issue(geometry, log, program, record))
 }
 
-/// Writes data within one block: inside the length it is an overwrite, at the length an append.
+/// Writes data within one block: inside the length it is an overwrite, at the length an append, and across the
+/// length both, in this order (document 02, K1). Gives the first number.
 pub fn write(lent: &mut Lent, program: u64, object: u64, offset: u64, data: &[u8]) -> Result<u64, Refusal> {
     let now = lent.look();
     let at = object as usize;
+    let parts = || parts_of_write(now.view().length(at), at, offset as usize, data);
     first(&[
         (Refusal::WrongBuffer, &|| now.wrong_buffer()),
         (Refusal::Damaged, &|| now.damaged()),
@@ -159,26 +162,38 @@ pub fn write(lent: &mut Lent, program: u64, object: u64, offset: u64, data: &[u8
         (Refusal::NoObject, &|| now.view().is_free(at)),
         (Refusal::WrongKind, &|| now.view().is_directory(at)),
         (Refusal::BadRange, &|| bad_write(&now, at, offset, data)),
-        (Refusal::LogFull, &|| now.log_full()),
-        (Refusal::Spent, &|| now.spent()),
+        (Refusal::LogFull, &|| now.log_full(parts().len())),
+        (Refusal::Spent, &|| now.spent(parts().len())),
     ])?;
-    let kind = if offset < now.view().length(at) as u64 { Kind::Overwrite } else { Kind::Append };
-    let record = Record { object: object as u16, offset: offset as u32, data: data.to_vec(), ..Record::blank(kind) };
+    let records = parts();
     let (geometry, log) = now.keep();
-    Ok(lent.issue(geometry, log, program, record))
+    Ok(lent.issue_in_turn(geometry, log, program, records))
 }
 
-/// Refusal 12 of a write: 0 bytes, across blocks or the end of file, beyond the length or b.
+/// Refusal 12 of a write: 0 bytes, across blocks, beyond the length or b.
 fn bad_write(now: &Found, file: usize, offset: u64, data: &[u8]) -> bool {
-    let length = now.view().length(file) as u128;
     let block = BLOCK as u128;
     let begin = offset as u128;
     let end = begin + data.len() as u128;
     let across_blocks = end > 0 && begin / block != (end - 1) / block;
-    let across_end = begin < length && length < end;
-    let beyond_length = begin > length;
+    let beyond_length = begin > now.view().length(file) as u128;
     let beyond_b = end > now.geometry().longest_file() as u128;
-    data.is_empty() || across_blocks || across_end || beyond_length || beyond_b
+    data.is_empty() || across_blocks || beyond_length || beyond_b
+}
+
+/// The operations of a write that refusal 12 lets pass, in issue order: an overwrite of what lies before the length
+/// and an append of the rest at the length (document 02, K1). A part without bytes is no operation.
+fn parts_of_write(length: usize, file: usize, offset: usize, data: &[u8]) -> Vec<Record> {
+    let (old, new) = data.split_at(data.len().min(length - offset));
+    let part = |kind, from: usize, data: &[u8]| Record {
+        object: file as u16,
+        offset: from as u32,
+        data: data.to_vec(),
+        ..Record::blank(kind)
+    };
+    let mut parts = vec![part(Kind::Overwrite, offset, old), part(Kind::Append, offset + old.len(), new)];
+    parts.retain(|part| !part.data.is_empty());
+    parts
 }
 
 /// Gives a file a new length; what this cuts off or adds is zero.
@@ -194,8 +209,8 @@ pub fn set_length(lent: &mut Lent, program: u64, object: u64, length: u64) -> Re
         (Refusal::NoObject, &|| now.view().is_free(at)),
         (Refusal::WrongKind, &|| now.view().is_directory(at)),
         (Refusal::BadRange, &|| length > now.geometry().longest_file() as u64),
-        (Refusal::LogFull, &|| now.log_full()),
-        (Refusal::Spent, &|| now.spent()),
+        (Refusal::LogFull, &|| now.log_full(1)),
+        (Refusal::Spent, &|| now.spent(1)),
     ])?;
     let record = Record { object: object as u16, offset: length as u32, ..Record::blank(Kind::SetLength) };
     let (geometry, log) = now.keep();
@@ -215,8 +230,8 @@ pub fn forder(lent: &mut Lent, program: u64, list: &[u8]) -> Result<u64, Refusal
         (Refusal::Marked, &|| now.marked(program)),
         (Refusal::BadNumber, &|| bad_length || twice() || objects.iter().any(|&object| now.bad_number(object as u64))),
         (Refusal::NoObject, &|| objects.iter().any(|&object| now.view().is_free(object as usize))),
-        (Refusal::LogFull, &|| now.log_full()),
-        (Refusal::Spent, &|| now.spent()),
+        (Refusal::LogFull, &|| now.log_full(1)),
+        (Refusal::Spent, &|| now.spent(1)),
     ])?;
     let record = Record { list: objects, ..Record::blank(Kind::Forder) };
     let (geometry, log) = now.keep();

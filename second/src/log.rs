@@ -97,12 +97,14 @@ impl Log {
         lost.map(|slot| &slot.record)
     }
 
-    pub fn full(&self, geometry: &Geometry) -> bool {
-        self.slots.len() == geometry.m
+    /// The slots that are still free; a lost operation uses its slot as a waiting one does.
+    pub fn free_slots(&self, geometry: &Geometry) -> usize {
+        geometry.m - self.slots.len()
     }
 
-    pub fn spent(&self) -> bool {
-        self.next == SPENT
+    /// How many operations can still be numbered.
+    pub fn numbers_left(&self) -> usize {
+        (SPENT - self.next) as usize
     }
 
     pub fn is_marked(&self, program: u64) -> bool {

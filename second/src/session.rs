@@ -61,15 +61,24 @@ impl Lent<'_> {
         log.write(self.log);
     }
 
-    /// Lets an accepted change or forder take its number, alter the view, wait in the log, and bring dependence.
-    pub fn issue(&mut self, geometry: Geometry, mut log: Log, program: u64, mut record: Record) -> u64 {
-        record.sequence = log.next;
-        record.program = program as u8;
-        apply(&mut Volume::over(geometry, &mut *self.view), &record);
-        log.note(record.program, &record.operands().collect::<Vec<u16>>());
-        log.add(record);
+    /// Lets the operation of an accepted change or forder take its number, alter the view, wait in the log, and
+    /// bring dependence. Gives the number.
+    pub fn issue(&mut self, geometry: Geometry, log: Log, program: u64, record: Record) -> u64 {
+        self.issue_in_turn(geometry, log, program, vec![record])
+    }
+
+    /// The same for a call that is several operations, one after another. Gives the first number.
+    pub fn issue_in_turn(&mut self, geometry: Geometry, mut log: Log, program: u64, records: Vec<Record>) -> u64 {
+        let first_number = log.next as u64;
+        for mut record in records {
+            record.sequence = log.next;
+            record.program = program as u8;
+            apply(&mut Volume::over(geometry, &mut *self.view), &record);
+            log.note(record.program, &record.operands().collect::<Vec<u16>>());
+            log.add(record);
+        }
         log.write(self.log);
-        log.next as u64 - 1
+        first_number
     }
 }
 
@@ -99,14 +108,14 @@ impl<'a> Found<'a> {
         object >= self.geometry().n as u64
     }
 
-    /// Refusal 13.
-    pub fn log_full(&self) -> bool {
-        self.log().full(&self.geometry())
+    /// Refusal 13: fewer slots are free than the call has operations.
+    pub fn log_full(&self, operations: usize) -> bool {
+        self.log().free_slots(&self.geometry()) < operations
     }
 
-    /// Refusal 14.
-    pub fn spent(&self) -> bool {
-        self.log().spent()
+    /// Refusal 14: fewer numbers are left than the call has operations.
+    pub fn spent(&self, operations: usize) -> bool {
+        self.log().numbers_left() < operations
     }
 
     pub fn geometry(&self) -> Geometry {

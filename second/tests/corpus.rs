@@ -45,7 +45,7 @@ fn nothing_is_missing_from_the_reach() {
 
 #[test]
 fn the_corpus_is_at_most_2_mb() {
-    let entries = std::fs::read_dir(cases()).unwrap();
-    let total: u64 = entries.map(|entry| entry.unwrap().metadata().unwrap().len()).sum();
+    let bytes = |path: &Path| std::fs::metadata(path).unwrap().len();
+    let total: u64 = scripts().iter().map(|script| bytes(script) + bytes(&script.with_extension("answers"))).sum();
     assert!(total <= 2_000_000, "{total} bytes");
 }

@@ -105,12 +105,24 @@ impl Run {
         program: u64,
         what: impl FnOnce(&Tree) -> What,
     ) -> bool {
+        let what = |view: &Tree| vec![what(view)];
+        self.changed_by_parts(name, answer, program, what)
+    }
+
+    /// The same where a change may be several operations; its number is that of the first.
+    fn changed_by_parts(
+        &mut self,
+        name: &'static str,
+        answer: common::Answer,
+        program: u64,
+        parts: impl FnOnce(&Tree) -> Vec<What>,
+    ) -> bool {
         let Ok(number) = answer else { return false };
         assert_eq!(number, self.number());
         let mut view = self.register.view();
-        let what = what(&view);
-        assert!(view.apply(&what), "an accepted change applies to the view");
-        self.register.add(program as u8, what);
+        let parts = parts(&view);
+        assert!(parts.iter().all(|what| view.apply(what)), "an accepted change applies to the view");
+        self.register.add(program as u8, parts);
         self.accepted.insert(name);
         true
     }
@@ -157,24 +169,57 @@ impl Run {
         })
     }
 
+    /// A write at the length, inside it, or across it (document 02, K1), which is then two operations.
     fn write(&mut self) -> bool {
         let (program, object) = (self.program(), self.of_kind(false));
         let length = self.register.view().0.get(&(object as u16)).map_or(0, |node| node.data.len() as u64);
         let offset = if self.random.chance(40) { length } else { self.random.below(length + 2) };
-        let room = if offset < length { (length - offset).min(6) } else { 6 };
+        let across = self.random.chance(30);
+        let room = if offset < length && !across { (length - offset).min(6) } else { 6 };
         let most = if self.random.chance(10) { 1024 } else { room };
         let count = 1 + self.random.below(most);
-        let byte = self.random.below(256) as u8;
-        let data = vec![byte; if self.random.chance(3) { 0 } else { count as usize }];
+        let start = self.random.below(256) as u8;
+        let count = if self.random.chance(3) { 0 } else { count };
+        let data: Vec<u8> = (0..count).map(|at| start.wrapping_add(at as u8)).collect();
+        let expected = self.judge_write(program, object, offset, count);
         let answer = self.world.write(program, object, offset, &data);
-        self.changed("write", answer, program, |_| {
-            let (object, offset) = (object as u16, offset as usize);
-            if (offset as u64) < length {
-                What::Overwrite { object, offset, data }
-            } else {
-                What::Append { object, offset, data }
-            }
+        assert_eq!(answer, expected);
+        let object = object as u16;
+        if offset < length && length < offset + count {
+            let (old, new) = data.split_at((length - offset) as usize);
+            let overwrite = What::Overwrite { object, offset: offset as usize, data: old.to_vec() };
+            let append = What::Append { object, offset: length as usize, data: new.to_vec() };
+            return self.changed_by_parts("write across the end", answer, program, |_| vec![overwrite, append]);
+        }
+        let offset = offset as usize;
+        self.changed("write", answer, program, |_| match (offset as u64) < length {
+            true => What::Overwrite { object, offset, data },
+            false => What::Append { object, offset, data },
         })
+    }
+
+    /// What a write must give, reckoned from the register.
+    fn judge_write(&self, program: u64, object: u64, offset: u64, count: u64) -> common::Answer {
+        if self.register.marks() >> program & 1 == 1 {
+            return Err(4);
+        }
+        if object >= self.world.n {
+            return Err(7);
+        }
+        let view = self.register.view();
+        let Some(node) = view.0.get(&(object as u16)) else { return Err(8) };
+        if node.directory {
+            return Err(9);
+        }
+        let (length, end) = (node.data.len() as u64, offset + count);
+        if count == 0 || offset > length || offset / 1024 != (end - 1) / 1024 || end > 1024 * self.world.b {
+            return Err(12);
+        }
+        let operations = if offset < length && length < end { 2 } else { 1 };
+        if self.world.m - self.register.used_slots() < operations {
+            return Err(13);
+        }
+        Ok(self.number())
     }
 
     fn set_length(&mut self) -> bool {
@@ -430,6 +475,7 @@ fn random_runs_keep_demand_3() {
         "stat",
         "take",
         "write",
+        "write across the end",
     ];
     assert_eq!(accepted.into_iter().collect::<Vec<_>>(), all, "every call was accepted in some run");
     assert!(subsets.0 > 1000 && subsets.1 > 1000, "many sets of both sorts were tried: {subsets:?}");

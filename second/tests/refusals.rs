@@ -379,11 +379,33 @@ fn write() {
     faults.push(fault(9, &["object"], |s| s.object = 0));
     faults.push(fault(9, &["object"], |s| s.object = 3));
     faults.push(fault(12, &["range"], |s| s.bytes.clear()));
-    faults.push(fault(12, &["range"], |s| s.number = 9));
     faults.push(fault(12, &["range"], |s| s.number = 11));
     faults.push(fault(12, &["range"], |s| s.number = u64::MAX));
     faults.push(fault(12, &["range"], |s| s.bytes = vec![1; 1025]));
     faults.push(fault(12, &["range"], |s| (s.number, s.bytes) = (10, vec![1; 1015])));
+    check(setup, faults);
+}
+
+/// Document 02, K1: two slots and two numbers are needed, of which the base leaves just two slots free.
+#[test]
+fn write_across_the_end() {
+    let mut setup = base("write");
+    (setup.number, setup.bytes) = (9, b"ab".to_vec());
+    let mut log = setup.world.log_now();
+    log.slots.pop();
+    setup.world.set_log(&log);
+    let mut faults = with_log_faults(object_faults());
+    faults.push(fault(9, &["object"], |s| s.object = 0));
+    faults.push(fault(9, &["object"], |s| s.object = 3));
+    faults.push(fault(12, &["range"], |s| s.bytes = vec![1; 1016]));
+    faults.push(fault(12, &["range"], |s| s.bytes.clear()));
+    faults.push(fault(12, &["range"], |s| s.number = 11));
+    faults.push(fault(13, &["slot 4", "slots"], |s| {
+        let mut log = s.world.log_now();
+        log.slots.push(waiting(set_length_record(22, 1, 1, 10)));
+        s.world.set_log(&log);
+    }));
+    faults.push(fault(14, &["next"], |s| s.world.log[..4].copy_from_slice(&4_294_967_294_u32.to_le_bytes())));
     check(setup, faults);
 }
 

@@ -1,7 +1,7 @@
 -- The test of lengths and form decides what `step` asks first. Assumes nothing.
 use Prim.Native.Nat.{ℕ}
 use native.Mathlib.Omega.{arith}
-use mathlib.Core.Path.{_≡_, refl, sym, ap, _∙_}
+use mathlib.Core.Path.{_≡_, refl, sym, ap, _∙_, subst}
 use mathlib.Core.List.{List}
 use mathlib.Core.Bool.{Bool, true, false, _&&_, cond, and-eq-true-iff, false≢true}
 use mathlib.Core.Option.{Option, none, some}
@@ -10,15 +10,17 @@ use lib.Dec.{leb, eqb}
 use Rattle.returned.specs.Returned
 use Rattle.search.specs.Volume.{Volume}
 use Rattle.search.specs.Stored.{volumeBytes, lent, formed, isSome, decodeVolume, readVolume}
+use Rattle.search.specs.Code.Lent.{Formed}
 use Rattle.search.specs.LentLaws
 use Rattle.log.specs.Slot.{Log}
 use Rattle.log.specs.Stored.{logBytes, lentLog, formedLog, isLog, decodeLog, readLog}
+use Rattle.log.specs.Code.Slots.{Logged}
 use Rattle.log.specs.StoredLaws
 use Rattle.logform.specs.FormLaws
 use Rattle.session.specs.Call.{Geometry, Buffers, Call, geometry, buffers, inRange, serverFits, lengthsFit}
 use Rattle.session.specs.Model.{Model}
-use Rattle.session.specs.Step.{joinModel, decodeModel, turnedDown, onModel, step}
-use Rattle.session.specs.StepLaws.{Holds, model-read}
+use Rattle.session.specs.Step.{joinModel, encodeModel, decodeModel, turnedDown, onModel, step}
+use Rattle.session.specs.StepLaws.{Holds, model-stored, model-read}
 use Rattle.admission.specs.Code.Admitted.{isModel, admission, modelIn, Admitted}
 
 -- six tests, asked in two orders
@@ -96,6 +98,20 @@ admitted n b m s v l e = go (inRange g && lengthsFit g t) (isModel (decodeModel 
           log = fl;
           holds = model-read g t (modelIn n b m s v l) (record { range = fit .0; lengths = fit .1; read = rw (ds, dv, dl) });
         }
+
+-- Three buffers of the right form, for a geometry in range, are as if they had passed.
+pub formed-admitted : (n b m : ℕ) (s v l : List ℕ) → inRange (geometry n b m) ≡ true → Formed n b s → Formed n b v → Logged n b m l → Admitted n b m s v l
+formed-admitted n b m s v l range fs fv fl =
+    let x = modelIn n b m s v l in
+    let stored : encodeModel (geometry n b m) x ≡ buffers s v l = λ i. record { server = fs .stored i; view = fv .stored i; log = fl .stored i } in
+    record {
+      server = fs;
+      view = fv;
+      log = fl;
+      holds =
+          subst (λ (y : Buffers). Holds (geometry n b m) y x) stored
+          (model-stored (geometry n b m) x (record { range = range; server = fs .form; view = fv .form; log = fl .form }));
+    }
 
 -- Three tests, one after the other: what is known where each of them is left.
 pub at-third : (x y z : Bool) → x ≡ true → y ≡ true → z ≡ x && (y && z)

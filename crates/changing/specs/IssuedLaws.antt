@@ -1,31 +1,34 @@
--- An accepted change: its operation may be issued, and what issuing it leaves is what the call leaves. Assumes nothing.
+-- An accepted change: its operations may be issued one after the other, and what issuing them leaves is what the call leaves. Assumes
+-- nothing.
 use Prim.Native.Nat.{ℕ}
 use native.Mathlib.Omega.{arith}
 use mathlib.Core.Path.{_≡_, refl, sym, ap, _∙_, subst}
 use mathlib.Core.List.{List, [], _∷_, _++_}
 use Rattle.returned.specs.declared.Value.{Value}
 use Rattle.returned.specs.Shapes.{value}
-use Rattle.records.specs.Operation.{Operation, Record, recordOf}
+use Rattle.records.specs.Operation.{Operation, Record, recordOf, operands}
 use Rattle.search.specs.Stored.{readVolume}
 use Rattle.log.specs.Stored.{readLog}
 use Rattle.log.specs.SlotLaws.{formed-inv}
 use Rattle.session.specs.Call.{Call, geometry, buffers, answer}
-use Rattle.session.specs.Model.{programRows}
 use Rattle.session.specs.Issue.{issues}
 use Rattle.session.specs.Edit.{roomRows}
-use Rattle.session.specs.Effect.{Effect, performAll, issuing}
+use Rattle.session.specs.Model.{Model, withView, withLog, programRows}
+use Rattle.session.specs.Effect.{Effect, note, issue, perform, performAll, issuing}
 use Rattle.session.specs.Step.{given, encodeModel, step}
 use Rattle.session.specs.IssueLaws.{record-good}
-use Rattle.session.specs.IssuingLaws.{Issuing}
-use Rattle.session.specs.PerformLaws.{issuing-one}
-use Rattle.issuing.specs.Code.Issued.{Issuable, Room, Issued}
+use Rattle.session.specs.IssuingLaws.{Issuing, issuing-rest}
+use Rattle.issuing.specs.Code.Issued.{Issuable, Room, Issued, issuedAll, appliedAll, AllIssued}
+use Rattle.issuing.specs.IssuedLaws.{issued-logged, issued-read, issued-formed, issued-view, one-issued, more-issued}
 use Rattle.admission.specs.Code.Admitted.{modelIn, Admitted}
+use Rattle.admission.specs.AdmittedLaws.{formed-admitted}
 use Rattle.admission.specs.TurnLaws.{accepted}
 use Rattle.changing.specs.Code.Change.{changeNumber, Change}
 use Rattle.changing.specs.ChangeLaws.{change-passes}
 
-module _ {n b m p : ℕ} {s v l : List ℕ} (h : Admitted n b m s v l) {o : Operation} (i : Issuing (geometry n b m) (modelIn n b m s v l) p (o ∷ [])) where
-  -- The log has room for it.
+module _ {n b m p : ℕ} {s v l : List ℕ} (h : Admitted n b m s v l) {o : Operation} {os : List Operation}
+    (i : Issuing (geometry n b m) (modelIn n b m s v l) p (o ∷ os)) where
+  -- The log has room for the first.
   pub issuing-room : Room m l
   issuing-room = let r = i .room in let k = i .number in (omega arith, omega arith)
 
@@ -41,17 +44,55 @@ module _ {n b m p : ℕ} {s v l : List ℕ} (h : Admitted n b m s v l) {o : Oper
         ready = f .0;
       })
 
+  -- What is left where it is issued: three buffers that pass, on which the others may be issued.
+  module _ (x : ℕ) (log view : List ℕ) (u : Issued n b m x log view (readVolume n b v) (readLog m l) (recordOf (readLog m l .next) p o)) where
+    abbrev first : Record
+    first = recordOf (readLog m l .next) p o
+
+    able : Issuable n b (readVolume n b v) first
+    able = issuing-able first refl
+
+    pub issued-admitted : Admitted n b m s view log
+    issued-admitted =
+        formed-admitted n b m s view log (h .holds .sound .range) (h .server)
+        (issued-formed n b m l v (h .log) (h .view) first able issuing-room refl x log view u)
+        (issued-logged n b m l v (h .log) (h .view) first able issuing-room refl x log view u)
+
+    issued-model : perform (issue p o) (perform (note p (operands o)) (modelIn n b m s v l)) ≡ modelIn n b m s view log
+    unfolding perform
+    issued-model = λ j.
+        record {
+          server = readVolume n b s;
+          view = sym (issued-view n b m l v (h .log) (h .view) first able issuing-room refl x log view u) j;
+          log = sym (issued-read n b m l v (h .log) (h .view) first able issuing-room refl x log view u) j;
+        }
+
+    pub issued-rest : Issuing (geometry n b m) (modelIn n b m s view log) p os
+    issued-rest = subst (λ (y : Model). Issuing (geometry n b m) y p os) issued-model (issuing-rest (geometry n b m) p o os (modelIn n b m s v l) i)
+
+    pub issued-then : (y : ℕ) (log₂ view₂ : List ℕ) → AllIssued b m y log₂ view₂ (readVolume n b view) (readLog m log) p os
+        → AllIssued b m x log₂ view₂ (readVolume n b v) (readLog m l) p (o ∷ os)
+    issued-then y log₂ view₂ k = more-issued n b m l v (h .log) (h .view) first able issuing-room refl x log view u os y log₂ view₂ k
+
+-- What the effects of issuing leave of a model, in the terms of the log's code.
+performed : (p : ℕ) (os : List Operation) (x : Model) → performAll (issuing p os) x ≡ withView (appliedAll os (x .view)) (withLog (issuedAll p os (x .log)) x)
+unfolding performAll perform issuing issuedAll appliedAll
+performed p [] x = refl
+performed p (o ∷ os) x = performed p os (perform (issue p o) (perform (note p (operands o)) x))
+
 -- The accepted case of every change: the buffers store what issuing its operations leaves.
 pub changed-outcome : {n b m p : ℕ} {s v l : List ℕ} {c : Call} {own count : ℕ} (ch : Change n b m p s v l c own count) (k : ℕ)
     → k ≡ changeNumber (geometry n b m) (readLog m l) p own count → k ≡ 0 → (os : List Operation) → issues (readVolume n b v) c ≡ os
-    → (log view : List ℕ) → encodeModel (geometry n b m) (performAll (issuing p os) (modelIn n b m s v l)) ≡ buffers s view log
-    → (r : Value) → r ≡ value 0 (readLog m l .next)
+    → (x : ℕ) (log view : List ℕ) → AllIssued b m x log view (readVolume n b v) (readLog m l) p os → (r : Value) → r ≡ value 0 x
     → given (r .returned) (r .value ∷ []) [] (buffers s view log) ≡ step (geometry n b m) c (buffers s v l)
-changed-outcome {n} {b} {m} {p} {s} {v} {l} {c} ch k e z os all log view left r w =
+changed-outcome {n} {b} {m} {p} {s} {v} {l} {c} ch k e z os all x log view u r w =
     let g = geometry n b m in
     let y = modelIn n b m s v l in
     let a = answer 0 (readLog m l .next ∷ []) [] in
-    (λ j. record { gives = answer (w j .returned) (w j .value ∷ []) []; leaves = sym left j })
+    let told = w ∙ ap (value 0) (u .gives) in
+    let left : encodeModel g (performAll (issuing p os) y) ≡ buffers s view log =
+    ap (encodeModel g) (performed p os y) ∙ (λ j. record { server = ch .held .server .stored j; view = sym (u .view) j; log = sym (u .log) j }) in
+    (λ j. record { gives = answer (told j .returned) (told j .value ∷ []) []; leaves = sym left j })
     ∙ sym
     (accepted n b m s v l (ch .held) c (programRows (readLog m l) p ++ (ch .rows ++ roomRows g c y)) a (ch .is) (ch .rise) (change-passes ch k e z) refl
     ∙ ap (λ (f : List Effect). record { gives = a; leaves = encodeModel g (performAll f y) }) (ch .effects ∙ ap (issuing p) all))
@@ -63,8 +104,4 @@ pub issued-outcome : {n b m p : ℕ} {s v l : List ℕ} {c : Call} {own count : 
     → (x : ℕ) (log view : List ℕ) → Issued n b m x log view (readVolume n b v) (readLog m l) d → (r : Value) → r ≡ value 0 x
     → given (r .returned) (r .value ∷ []) [] (buffers s view log) ≡ step (geometry n b m) c (buffers s v l)
 issued-outcome {n} {b} {m} {p} {s} {v} {l} ch k e z o one d q x log view u r w =
-    let t = subst (Issued n b m x log view (readVolume n b v) (readLog m l)) q u in
-    let left : encodeModel (geometry n b m) (performAll (issuing p (o ∷ [])) (modelIn n b m s v l)) ≡ buffers s view log =
-    ap (encodeModel (geometry n b m)) (issuing-one p o (modelIn n b m s v l))
-    ∙ (λ j. record { server = ch .held .server .stored j; view = sym (t .view) j; log = sym (t .log) j }) in
-    changed-outcome ch k e z (o ∷ []) one log view left r (w ∙ ap (value 0) (u .gives))
+    changed-outcome ch k e z (o ∷ []) one x log view (one-issued (subst (Issued n b m x log view (readVolume n b v) (readLog m l)) q u)) r w

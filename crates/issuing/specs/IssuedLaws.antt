@@ -1,13 +1,14 @@
 -- After an operation is issued the log and the view are of the right form again, and tell of what it left: so the next operation of the
--- same call may be issued on them. Assumes nothing.
+-- same call may be issued on them, and what one and then others leave is what all of them leave. Assumes nothing.
 use Prim.Native.Nat.{ℕ, _<_}
 use native.Mathlib.Omega.{arith}
 use mathlib.Core.Path.{_≡_, sym, ap, _∙_, subst}
-use mathlib.Core.List.{List}
+use mathlib.Core.List.{List, [], _∷_}
 use mathlib.Core.Bool.{true}
 use lib.ListN.{length}
-use Rattle.records.specs.Operation.{Record, recordOf, operands}
+use Rattle.records.specs.Operation.{Operation, Record, recordOf, operands}
 use Rattle.records.specs.Fields.{valid, fits}
+use Rattle.search.specs.Volume.{Volume}
 use Rattle.search.specs.Form.{wellFormed as wellFormedVolume}
 use Rattle.search.specs.Stored.{encodeVolume, readVolume}
 use Rattle.search.specs.StoredLaws.{read-good}
@@ -23,7 +24,13 @@ use Rattle.log.specs.ChangeLaws.{note-good, issue-good, noted-length}
 use Rattle.log.specs.GeometryLaws.{logged-whole}
 use Rattle.log.specs.Code.Slots.{Logged, usedIn}
 use Rattle.slots.specs.SlotLaws.{head-limits}
-use Rattle.issuing.specs.Code.Issued.{Issuable, Room, issuedLog, Issued}
+use Rattle.issuing.specs.Code.Issued.{Issuable, Room, issuedLog, Issued, issuedAll, appliedAll, AllIssued}
+
+-- One operation is a list of one.
+pub one-issued : {n b m x p : ℕ} {log view : List ℕ} {v : Volume} {l : Log} {o : Operation} → Issued n b m x log view v l (recordOf (l .next) p o)
+    → AllIssued b m x log view v l p (o ∷ [])
+unfolding issuedAll appliedAll
+one-issued h = record { gives = h .gives; log = h .log; view = h .view }
 
 module _ (n b m : ℕ) (s t : List ℕ) (u : Logged n b m s) (f : Formed n b t) (r : Record) (able : Issuable n b (readVolume n b t) r)
     (room : Room m s) (first : r .sequence ≡ readLog m s .next) where
@@ -56,3 +63,14 @@ module _ (n b m : ℕ) (s t : List ℕ) (u : Logged n b m s) (f : Formed n b t) 
 
     pub issued-view : readVolume n b view ≡ apply (readVolume n b t) (r .operation)
     issued-view = ap (readVolume n b) (h .view) ∙ read-good n b (apply (readVolume n b t) (r .operation)) (f .lent .most) (f .lent .blocks) applied-form
+
+    -- One, and then others on what it left.
+    pub more-issued : (os : List Operation) (y : ℕ) (log₂ view₂ : List ℕ) → AllIssued b m y log₂ view₂ (readVolume n b view) (readLog m log) (r .program) os
+        → AllIssued b m x log₂ view₂ (readVolume n b t) (readLog m s) (r .program) (r .operation ∷ os)
+    unfolding issuedAll appliedAll
+    more-issued os y log₂ view₂ k =
+        record {
+          gives = h .gives;
+          log = k .log ∙ ap (λ (l : Log). encodeLog m (issuedAll (r .program) os l)) issued-read;
+          view = k .view ∙ ap (λ (v : Volume). encodeVolume b (appliedAll os v)) issued-view;
+        }

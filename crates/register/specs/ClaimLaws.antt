@@ -96,7 +96,7 @@ first-issued p o os r =
     let a = acknowledged p o (happen (note p (operands o)) r) in
     (a, rest .0, rest .1 ∙ append-assoc (r .operations) (a ∷ []) (rest .0), refl)
 
-accepted-effects : (g : Geometry) (c : Call) (x : Model) → answerOf g c x .returned ≡ 0 → effectsIn g c x ≡ acceptedEffects c (x .view) (waitingOf (x .log .slots))
+pub accepted-effects : (g : Geometry) (c : Call) (x : Model) → answerOf g c x .returned ≡ 0 → effectsIn g c x ≡ acceptedEffects c (x .view) (waitingOf (x .log .slots))
 unfolding effectsOf
 accepted-effects g c x e = ap (λ (n : ℕ). cond (eqb n 0) (acceptedEffects c (x .view) (waitingOf (x .log .slots))) (refusedEffects c (answerOf g c x) (waitingOf (x .log .slots)))) e
 

@@ -88,7 +88,7 @@ push-effects : (g : Geometry) (q : ℕ) (x : Model) → answerOf g (push q) x .r
 unfolding effectsOf
 push-effects g q x e = ap (λ (n : ℕ). cond (eqb n 0) (send q ∷ []) []) e
 
-cut-effects : (g : Geometry) (x : Model) → effectsIn g cut x ≡ discard ∷ []
+pub cut-effects : (g : Geometry) (x : Model) → effectsIn g cut x ≡ discard ∷ []
 unfolding effectsOf answerOf
 cut-effects g x = refl
 

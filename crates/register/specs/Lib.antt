@@ -4,6 +4,7 @@ pub mod History
 pub mod Run
 pub mod Takes
 pub mod Claim
+pub mod Across
 pub mod FateLaws
 pub mod InvariantLaws
 pub mod PickLaws
@@ -25,5 +26,6 @@ pub mod RunLaws
 pub mod CouldLaws
 pub mod ClaimLaws
 pub mod DemandLaws
+pub mod AcrossLaws
 pub mod Entries
 pub mod EntryLaws

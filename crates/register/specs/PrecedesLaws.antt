@@ -10,7 +10,7 @@ use Rattle.records.specs.Operation.{Record, operands}
 use Rattle.records.specs.Fields.{member}
 use Rattle.log.specs.Order.{before, preceded, PrecedesIn}
 use Rattle.log.specs.OrderLaws.{Rising, Reason, hasOperand, before-earlier, before-ordered, before-of, preceded-exact, needed-exact}
-use Rattle.register.specs.Register.{Register, Acknowledged, isWaiting, isSent, chosen, waitingIn, neededFor}
+use Rattle.register.specs.Register.{Register, Acknowledged, lost, isWaiting, isSent, chosen, waitingIn, neededFor}
 use Rattle.register.specs.History.{Is, goneBy, lostBefore, directly, Precedes}
 use Rattle.register.specs.Claim.{Covers, Unpreceded}
 use Rattle.register.specs.FateLaws.{FateIs, waits, went, gone, fate-is, no-both, waits-not-sent, waiting-there}
@@ -34,8 +34,12 @@ pub precedes-sent : (r : Register) → Timed (r .operations) (r .clock) → {a c
 precedes-sent r t (Precedes.direct d) ma mc s = t .shut _ _ ma mc s d
 precedes-sent r t (Precedes.through mb p q l) ma mc s = precedes-sent r t p ma mb (precedes-sent r t q mb mc s)
 
+-- a lost operation precedes no waiting one: it was lost before that one was issued
+pub lost-precedes : {C : Type 0} (r : Register) → Timed (r .operations) (r .clock) → {a b : Acknowledged} → Precedes r a b → Is a r → Is b r → isWaiting b ≡ true → (u : ℕ) → a .fate ≡ lost u → C
+lost-precedes r t {a} {b} p ma mb wb u f = no-both (lostBefore a b) (ap (goneBy (b .issued)) f ∙ lt-ltb u (b .issued) (t .later a b u ma mb f wb)) (precedes-there p)
+
 -- of a chain from a waiting to a waiting operation each one between them waits: a sent one has no waiting predecessor, and a lost one
--- was lost before the last was issued
+-- precedes no waiting one
 between-waits : (r : Register) → Timed (r .operations) (r .clock) → {a b c : Acknowledged} → Precedes r a c → Precedes r c b → Is a r → Is b r → Is c r
     → isWaiting a ≡ true → isWaiting b ≡ true → isWaiting c ≡ true
 between-waits r t {a} {b} {c} p q ma mb mc wa wb = go (fate-is c)
@@ -43,7 +47,7 @@ between-waits r t {a} {b} {c} p q ma mb mc wa wb = go (fate-is c)
     go : FateIs c → isWaiting c ≡ true
     go (waits w s) = w
     go (went s w) = no-both (isSent a) (precedes-sent r t p ma mc s) (waits-not-sent a wa)
-    go (gone u f s w) = no-both (lostBefore c b) (ap (goneBy (b .issued)) f ∙ lt-ltb u (b .issued) (t .later c b u mc mb f wb)) (precedes-there q)
+    go (gone u f s w) = lost-precedes r t q mc mb wb u f
 
 -- a record of the waiting ones is some operation's that waits
 pub waits-in : (r : Register) (q : Record) → List·Memᴰ q (waitingIn r) → Waits (r .operations) q

@@ -12,7 +12,8 @@ use lib.Dec.{ltb}
 use Rattle.returned.specs.Returned
 use Rattle.records.specs.Operation.{Operation, Record}
 use Rattle.records.specs.Fields.{objectsOf}
-use Rattle.search.specs.Volume.{Volume, search}
+use Rattle.entry.specs.Entry.{contentsOf}
+use Rattle.search.specs.Volume.{Volume, entryAt, search}
 use Rattle.applies.specs.Apply.{applies}
 use Rattle.questions.specs.declared.object.Stat.{Stat}
 use Rattle.questions.specs.declared.object.Stat.the-variants.{Is, BadNumber as StatBadNumber, NoObject as StatNoObject}
@@ -42,7 +43,8 @@ use Rattle.session.specs.Effect.{acceptedEffects, issuing}
 use Rattle.session.specs.Step.{answerOf}
 use Rattle.session.specs.RefusalLaws.{numbered, lacks, Decided, passes, refuses, decided, passed, accepted-passes, own-number}
 use Rattle.session.specs.PossibleLaws.{Sound}
-use Rattle.session.specs.EditLaws.{remove-accepted, rename-accepted}
+use Rattle.session.specs.WriteLaws.{writes-some}
+use Rattle.session.specs.EditLaws.{remove-accepted, rename-accepted, write-some}
 use Rattle.session.specs.CallLaws.{Synced, whole, partly, broken, synced-is, sync-accepted, sync-link, sync-damaged}
 
 -- a refusal as it should be: no result, and the own buffer as before
@@ -283,11 +285,12 @@ module _ (g : Geometry) (x : Model) (s : Sound g x) where
         results = told (rename p d n b k) p (renameRows (x .view) d n b k) e;
       }
   change-answered (write p o f t) a e =
+      let k = writes-some (length (contentsOf (entryAt (x .view) o))) o f t (write-some g x s p o f t e) in
       record {
         program = p;
-        first = writes (x .view) o f t;
-        others = [];
-        effects = λ v w z. ap (λ (y : Volume). issuing p (issues y (write p o f t))) z;
+        first = k .0;
+        others = k .1;
+        effects = λ v w z. ap (λ (y : Volume). issuing p (writes y o f t)) z ∙ ap (issuing p) (k .2);
         results = told (write p o f t) p (writeRows (g .blocks) (x .view) o f t) e;
       }
   change-answered (setLength p o f) a e =

@@ -1,4 +1,5 @@
--- Document 01, "Cases to prove": C1 to C12 as one table, proved through one statement about the definitions.
+-- Document 01, "Cases to prove": C1 to C12 as one table, proved through one statement about the definitions; beside it further
+-- examples, and those of document 02.
 use Prim.Native.Nat.{ℕ}
 use mathlib.Core.Path.{_≡_, refl}
 use mathlib.Core.List.{List, [], _∷_, _++_, map}
@@ -18,14 +19,14 @@ use Rattle.entry.specs.Entry.{usage}
 use Rattle.search.specs.Volume.{every, lowest, search, hasChildren, formatted}
 use Rattle.applies.specs.Apply.{applies, apply}
 use Rattle.log.specs.Programs.{with, without, unionOf}
-use Rattle.log.specs.Slot.{emptyLog}
+use Rattle.log.specs.Slot.{emptyLog, withNext}
 use Rattle.log.specs.Order.{shares, directlyPrecedes, any, closure, needed, predecessors, preceded}
 use Rattle.log.specs.OrderCases.{orderIn, order}
 use Rattle.log.specs.Depend.{reach, noted}
 use Rattle.log.specs.Change.{waitingOf, issue, removed, dependentsOf, discard, earliest, waitingAt}
 use Rattle.session.specs.Call.{Geometry, Call, lookup, stat, read, createFile, makeDirectory, remove, rename, write, setLength, push, fsync, cut, take, renew}
 use Rattle.session.specs.Refusal.{lowestNumber}
-use Rattle.session.specs.Model.{Model}
+use Rattle.session.specs.Model.{Model, withLog}
 use Rattle.questions.specs.Answer.{statAnswer, objectAnswer, readAnswer, readLeaves}
 use Rattle.lookup.specs.Lookup.{componentAnswer, componentsAnswer, componentsObjects, lookupAnswer, lookupOperands}
 use Rattle.session.specs.Question.{lookupOf, statOf, readOf}
@@ -60,6 +61,8 @@ answers g (c ∷ cs) x =
 pub data Question : Type 0 where
   -- calls on a volume as mounted that are all accepted, and then calls: what do these answer?
   answersTo : Geometry → List Call → List Call → Question
+  -- the same, where the next number is another before the last calls
+  answersFrom : ℕ → Geometry → List Call → List Call → Question
   -- calls on a volume as mounted that are all accepted: which of the waiting operations precede each?
   orderAfter : Geometry → List Call → Question
   -- bytes: which record stands at their start?
@@ -86,6 +89,8 @@ onRecord (some r) = aRecord r
 
 unfoldable pub answerTo : Question → Told
 answerTo (answersTo g before calls) = onModel (after g before (some (mounted g))) (λ x. numbers (answers g calls x))
+answerTo (answersFrom n g before calls) =
+    onModel (after g before (some (mounted g))) (λ x. numbers (answers g calls (withLog (withNext n (x .log)) x)))
 answerTo (orderAfter g before) = onModel (after g before (some (mounted g))) (λ x. precede (order (waitingOf (x .log .slots))))
 answerTo (recordOf s) = onRecord (decodeRecord s)
 
@@ -210,7 +215,43 @@ examples =
     (numbers ((3 ∷ 0 ∷ []) ∷ (11 ∷ 0 ∷ []) ∷ (8 ∷ 0 ∷ []) ∷ (13 ∷ 0 ∷ []) ∷ []))
     ∷ []
 
--- every row: the definitions give what document 01 tells
-pub cases-hold : map (λ r. answerTo (r .asked)) (cases ++ examples) ≡ map (λ r. r .told) (cases ++ examples)
+-- document 02, K1: writes across the end of a file
+abbrev pub acrossTheEnd : List Row
+acrossTheEnd =
+    -- "ten bytes at the tail of a file, five old and five new": consecutive numbers, "the first is returned"; the file is longer; the append
+    -- may not be sent first; "A cut may keep the overwrite without the append", which is then the program's one loss, of 21 bytes
+    C 1
+    (answersTo small (fileOf 5)
+    (writeAt 0 10 ∷ stat 0 1 ∷ push 4 ∷ push 3 ∷ cut ∷ stat 1 1 ∷ stat 0 1 ∷ take 0 buffer ∷ take 0 buffer ∷ []))
+    (numbers
+    ((0 ∷ 3 ∷ [])
+    ∷ (0 ∷ 1 ∷ 10 ∷ 0 ∷ [])
+    ∷ (15 ∷ [])
+    ∷ (0 ∷ [])
+    ∷ (0 ∷ [])
+    ∷ (0 ∷ 1 ∷ 5 ∷ 0 ∷ [])
+    ∷ (4 ∷ 0 ∷ 0 ∷ 0 ∷ [])
+    ∷ (0 ∷ 21 ∷ [])
+    ∷ (16 ∷ 0 ∷ [])
+    ∷ []))
+    -- "and never the reverse": the append follows the overwrite
+    ∷ C 1 (orderAfter small (fileOf 5 ++ (writeAt 0 10 ∷ []))) (precede ((3 ∷ []) ∷ (4 ∷ 3 ∷ []) ∷ []))
+    -- "refusal 13 comes if fewer than two slots are free": with one slot free no write across the end, but an append; with two both
+    ∷ C 2 (answersTo (geometry 4 1 2) (fileOf 5 ++ (createFile 0 0 (named 103) 2 ∷ [])) (writeAt 0 10 ∷ writeAt 5 5 ∷ writeAt 0 20 ∷ []))
+    (numbers ((13 ∷ 0 ∷ []) ∷ (0 ∷ 4 ∷ []) ∷ (13 ∷ 0 ∷ []) ∷ []))
+    ∷ C 2 (answersTo (geometry 4 1 2) (fileOf 5) (writeAt 0 10 ∷ writeAt 0 1 ∷ [])) (numbers ((0 ∷ 3 ∷ []) ∷ (13 ∷ 0 ∷ []) ∷ []))
+    -- "and 14 if fewer than two numbers are left": the last number is for one operation, the last two for both
+    ∷ C 3 (answersFrom 4294967294 small (fileOf 5) (writeAt 0 10 ∷ writeAt 0 5 ∷ writeAt 0 5 ∷ []))
+    (numbers ((14 ∷ 0 ∷ []) ∷ (0 ∷ 4294967294 ∷ []) ∷ (14 ∷ 0 ∷ []) ∷ []))
+    ∷ C 3 (answersFrom 4294967293 small (fileOf 5) (writeAt 0 10 ∷ writeAt 0 5 ∷ [])) (numbers ((0 ∷ 4294967293 ∷ []) ∷ (14 ∷ 0 ∷ []) ∷ []))
+    -- "within one block": up to the block's end, and no further
+    ∷ C 4 (answersTo (geometry 4 2 6) (fileOf 1020) (writeAt 1019 5 ∷ writeAt 1019 6 ∷ [])) (numbers ((0 ∷ 3 ∷ []) ∷ (12 ∷ 0 ∷ []) ∷ []))
+    ∷ []
+
+abbrev pub table : List Row
+table = cases ++ (examples ++ acrossTheEnd)
+
+-- every row: the definitions give what the documents tell
+pub cases-hold : map (λ r. answerTo (r .asked)) table ≡ map (λ r. r .told) table
 unfolding permittedByte allPermitted isDots goodText nameTextOf sameName pathTextOf kindOfCode numeral operands member different allUpTo validList validHead differing inBlock objectsOf number counted readParts readRecord begins decodeRecord validObjects validNames validRange tied validParts valid usage every lowest search hasChildren formatted applies apply with unionOf shares directlyPrecedes any closure needed predecessors preceded orderIn reach noted waitingOf issue removed dependentsOf discard earliest waitingAt lowestNumber lookupOf statOf makeOf renameOf writeOf setLengthOf pushOf applying fsyncOf perform performAll issuing effectsOf answerOf leavesOf lookupAnswer lookupOperands statAnswer objectAnswer mounted after answers answerTo encode fields headBytes objectFields nameFields rangeFields bytes pairs patch readAnswer readLeaves readOf takeOf renewOf removeOf without components split onFirst componentsAnswer componentAnswer componentsObjects
 cases-hold = refl

@@ -80,17 +80,15 @@ renameRows v d n e k =
 unfoldable pub renameOf : Geometry → ℕ → ℕ → List ℕ → ℕ → List ℕ → Model → Answer
 renameOf g p d n e k x = changed g (rename p d n e k) p (renameRows (x .view) d n e k) x
 
--- "write of 0 bytes, across blocks or the end of file, beyond length or b"
+-- "write of 0 bytes, across blocks .., beyond length or b"; the end of the file is no bound within the block (document 02, K1)
 abbrev pub badRange : ℕ → ℕ → ℕ → ℕ → Bool
-badRange b len f n =
-    (eqb n 0 || ltb 1024 (f % 1024 + n))
-    || ((ltb len f || (ltb f len && ltb len (f + n))) || ltb (1024 * b) (f + n))
+badRange b len f n = (eqb n 0 || ltb 1024 (f % 1024 + n)) || (ltb len f || ltb (1024 * b) (f + n))
 
 -- a file by its number: 7, 8, 9
 abbrev pub fileRows : Volume → ℕ → List Row → List Row
 fileRows v o l = objectRows v o ++ (row Returned.wrongKind (not (isFile (entryAt v o))) ∷ l)
 
--- "Write lies in one block: wholly inside the length (overwrite) or beginning at the length (append)."
+-- "Write lies in one block"
 abbrev pub writeRows : ℕ → Volume → ℕ → ℕ → List ℕ → List Row
 writeRows b v o f s = fileRows v o (row Returned.badRange (badRange b (length (contentsOf (entryAt v o))) f (length s)) ∷ [])
 

@@ -1,12 +1,11 @@
 -- What acceptance means: an accepted change applies to the view that it met, and its record can be written.
-use Prim.Native.Nat.{ℕ, zero, suc, _+_, _*_, _%_, _≤_, _<_}
+use Prim.Native.Nat.{ℕ, zero, suc, _+_, _*_, _-_, _%_, _≤_, _<_, min}
 use native.Mathlib.Omega.{arith}
 use mathlib.Core.Path.{_≡_, refl, sym, ap, _∙_, subst}
-use mathlib.Core.Logic.{_⊎_, inl, inr}
 use mathlib.Core.List.{List, [], _∷_, _++_}
 use mathlib.Core.Bool.{Bool, true, false, not, _&&_, _||_, cond, and-eq-true-iff}
 use mathlib.Core.Option.{Option, none, some}
-use lib.ListN.{length}
+use lib.ListN.{length, take, drop, set, length-take, length-drop}
 use lib.Dec.{leb, ltb, eqb}
 use borrow.Author.Tests.{leb-true, ltb-true, ltb-false, eqb-false, eq-eqb, le-leb, lt-ltb, not-true, not-false}
 use Rattle.names.specs.declared.NameText.{NameText}
@@ -16,20 +15,23 @@ use Rattle.names.specs.NameLaws.{fine-valid}
 use Rattle.records.specs.Operation.{Operation}
 use Rattle.records.specs.Fields.{validList, different, allUpTo, allBelow, objectsOf}
 use Rattle.records.specs.ListLaws.{count-objects}
-use Rattle.entry.specs.Entry.{directory, isUsed, isFile, isDirectory, kindNumber, contentsOf}
+use Rattle.buffer.specs.Patch.{patch}
+use Rattle.entry.specs.Entry.{Entry, free, file, directory, isUsed, isFile, isDirectory, kindNumber, contentsOf, refilled}
+use Rattle.entry.specs.WriteLaws.{length-patch}
 use Rattle.search.specs.Volume.{Volume, entryAt, search, hasChildren, isChild, isNamed}
 use Rattle.search.specs.FormLaws.{well-formed-inv, lowest-some}
-use Rattle.applies.specs.Apply.{applies, isAbsent, isAt, hasRoom, yields}
+use Rattle.search.specs.SearchLaws.{entry-set-same, used-below}
+use Rattle.applies.specs.Apply.{applies, apply, isAbsent, isAt, hasRoom, yields}
 use Rattle.log.specs.Order.{any}
 use Rattle.session.specs.Call.{Geometry, Call, createFile, makeDirectory, remove, rename, write, setLength, forder, inRange}
 use Rattle.session.specs.Refusal.{Row}
 use Rattle.session.specs.Model.{Model, badProgram, isMarked, isBad, isLong, outside, isFree}
-use Rattle.session.specs.Issue.{displaced, onFound, writes, issues}
+use Rattle.session.specs.Issue.{displaced, onFound, onBytes, writes, issues}
 use Rattle.session.specs.Edit.{roomRows, changed, makeRows, makeOf, removeRows, removeOf, renameRows, renameOf, writeRows, writeOf, lengthRows, setLengthOf, forderRows, forderOf, ofFound, wrongRename, badRange}
 use Rattle.session.specs.RefusalLaws.{Passed, numbered, passed, accepted-passes, neither}
 use Rattle.session.specs.IssueLaws.{Recordable, EntryFields, RangeFields, create-recordable, make-recordable, remove-recordable, rename-recordable, replace-recordable, overwrite-recordable, append-recordable, length-recordable, forder-recordable}
 use Rattle.session.specs.PossibleLaws.{Sound}
-use Rattle.session.specs.IssuingLaws.{Issuing}
+use Rattle.session.specs.IssuingLaws.{FitInTurn, Issuing}
 
 pub objects-few : (g : Geometry) → inRange g ≡ true → g .objects ≤ 256
 unfolding inRange
@@ -58,6 +60,17 @@ inside v o h = ltb-true o (length v) (not-false _ h)
 
 used : (v : Volume) (o : ℕ) → isFree v o ≡ false → isUsed (entryAt v o) ≡ true
 used v o h = not-false _ h
+
+-- a file is used, and with other contents it is a file of these
+file-used : (e : Entry) → isFile e ≡ true → isUsed e ≡ true
+file-used free h = let z : _≡_ {A = ℕ} 0 1 = cc in absurd (omega arith)
+file-used (file n p c) h = refl
+file-used (directory n p) h = let z : _≡_ {A = ℕ} 0 1 = cc in absurd (omega arith)
+
+refilled-file : (e : Entry) (c : List ℕ) → isFile e ≡ true → (isFile (refilled e c) ≡ true) × (contentsOf (refilled e c) ≡ c)
+refilled-file free c h = let z : _≡_ {A = ℕ} 0 1 = cc in absurd (omega arith)
+refilled-file (file n p b) c h = (refl, refl)
+refilled-file (directory n p) c h = let z : _≡_ {A = ℕ} 0 1 = cc in absurd (omega arith)
 
 -- a search that is not absent found something
 found-one : (o : Option ℕ) → isAbsent o ≡ false → (i : ℕ) × (o ≡ some i)
@@ -185,46 +198,83 @@ module _ (g : Geometry) (x : Model) (s : Sound g x) where
         number = ltb-false _ _ (r .1 .1 .1 .1 .1 .0);
       }
 
-  -- the range of an accepted write: some bytes in one block, beginning at the length or ending within it
-  write-range : (f k len : ℕ) → badRange (g .blocks) len f k ≡ false
-      → (1 ≤ k) × (f % 1024 + k ≤ 1024) × (f ≤ len) × ((f ≡ len) ⊎ (f + k ≤ len)) × (f + k ≤ 1024 * g .blocks)
+  -- the range of an accepted write: some bytes in one block, beginning no later than the length
+  write-range : (f k len : ℕ) → badRange (g .blocks) len f k ≡ false → (1 ≤ k) × (f % 1024 + k ≤ 1024) × (f ≤ len) × (f + k ≤ 1024 * g .blocks)
   write-range f k len h =
-      let a = neither (eqb k 0 || ltb 1024 (f % 1024 + k)) ((ltb len f || (ltb f len && ltb len (f + k))) || ltb (1024 * g .blocks) (f + k)) h in
+      let a = neither (eqb k 0 || ltb 1024 (f % 1024 + k)) (ltb len f || ltb (1024 * g .blocks) (f + k)) h in
       let b = neither (eqb k 0) (ltb 1024 (f % 1024 + k)) (a .0) in
-      let c = neither (ltb len f || (ltb f len && ltb len (f + k))) (ltb (1024 * g .blocks) (f + k)) (a .1) in
-      let d = neither (ltb len f) (ltb f len && ltb len (f + k)) (c .0) in
+      let c = neither (ltb len f) (ltb (1024 * g .blocks) (f + k)) (a .1) in
       let z : k ≡ 0 → ⊥ = eqb-false k 0 (b .0) in
-      let l : f ≤ len = ltb-false len f (d .0) in
-      (omega arith, ltb-false 1024 (f % 1024 + k) (b .1), l, where-it-lies (ltb f len) refl (d .1) l, ltb-false (1024 * g .blocks) (f + k) (c .1))
-    where
-      where-it-lies : (t : Bool) → ltb f len ≡ t → (t && ltb len (f + k)) ≡ false → f ≤ len → (f ≡ len) ⊎ (f + k ≤ len)
-      where-it-lies true e n l = inr (ltb-false len (f + k) n)
-      where-it-lies false e n l = let m : len ≤ f = ltb-false f len e in inl (omega arith)
+      (omega arith, ltb-false 1024 (f % 1024 + k) (b .1), ltb-false len f (c .0), ltb-false (1024 * g .blocks) (f + k) (c .1))
 
-  -- an accepted write is an append or an overwrite, each with its range
-  written-one : (o f : ℕ) (d : List ℕ) → RangeFields (g .objects) (g .blocks) few o f d → isFile (entryAt (x .view) o) ≡ true
-      → (f ≡ length (contentsOf (entryAt (x .view) o))) ⊎ (f + length d ≤ length (contentsOf (entryAt (x .view) o)))
-      → (b : Bool) → eqb f (length (contentsOf (entryAt (x .view) o))) ≡ b
-      → (applies (x .view) (cond b (Operation.append o f d) (Operation.overwrite o f d)) ≡ true) × Recordable (g .objects) (g .blocks) (cond b (Operation.append o f d) (Operation.overwrite o f d))
+  -- some bytes that begin at the length of a file may be appended
+  append-fit : (v : Volume) (o len : ℕ) (u : List ℕ) → isFile (entryAt v o) ≡ true → len ≡ length (contentsOf (entryAt v o))
+      → (1 ≤ length u → RangeFields (g .objects) (g .blocks) few o len u) → FitInTurn (g .objects) (g .blocks) v (onBytes u (λ t. Operation.append o len t))
   unfolding applies
-  written-one o f d r isf lies true t = (rw (isf, t), append-recordable (g .objects) (g .blocks) few (blocks-few g (s .range)) o f d r)
-  written-one o f d r isf lies false t =
-      (rw (isf, le-leb (f + length d) (length (contentsOf (entryAt (x .view) o))) (inner lies)), overwrite-recordable (g .objects) (g .blocks) few (blocks-few g (s .range)) o f d r)
-    where
-      inner : (f ≡ length (contentsOf (entryAt (x .view) o))) ⊎ (f + length d ≤ length (contentsOf (entryAt (x .view) o))) → f + length d ≤ length (contentsOf (entryAt (x .view) o))
-      inner (inl e) = absurd (eqb-false _ _ t e)
-      inner (inr k) = k
+  append-fit v o len [] isf at r = tt
+  append-fit v o len (a ∷ u) isf at r =
+      (rw (isf, eq-eqb len (length (contentsOf (entryAt v o))) at), append-recordable (g .objects) (g .blocks) few (blocks-few g (s .range)) o len (a ∷ u) (r (omega arith)), tt)
 
-  pub write-accepted : (p o f : ℕ) (d : List ℕ) → writeOf g p o f d x .returned ≡ 0 → Issuing g x p (writes (x .view) o f d ∷ [])
+  -- an overwrite leaves a file of the same length
+  overwritten-file : (v : Volume) (o f : ℕ) (t : List ℕ) → isFile (entryAt v o) ≡ true → f + length t ≤ length (contentsOf (entryAt v o))
+      → (isFile (entryAt (apply v (Operation.overwrite o f t)) o) ≡ true) × (length (contentsOf (entryAt v o)) ≡ length (contentsOf (entryAt (apply v (Operation.overwrite o f t)) o)))
+  unfolding apply
+  overwritten-file v o f t isf h =
+      let c = contentsOf (entryAt v o) in
+      let is : entryAt (set v o (refilled (entryAt v o) (patch c f t))) o ≡ refilled (entryAt v o) (patch c f t) = entry-set-same v o _ (used-below v o (file-used (entryAt v o) isf)) in
+      let y = refilled-file (entryAt v o) (patch c f t) isf in
+      (ap isFile is ∙ y .0, sym (ap (λ (e : Entry). length (contentsOf e)) is ∙ ap length (y .1) ∙ length-patch c f t h))
+
+  -- an accepted write: an overwrite of the bytes up to the length, and then an append of the rest
+  writes-fit : (o f : ℕ) (d : List ℕ) → 1 ≤ o → o < g .objects → isFile (entryAt (x .view) o) ≡ true
+      → (1 ≤ length d) × (f % 1024 + length d ≤ 1024) × (f ≤ length (contentsOf (entryAt (x .view) o))) × (f + length d ≤ 1024 * g .blocks)
+      → FitInTurn (g .objects) (g .blocks) (x .view) (writes (x .view) o f d)
+  unfolding applies
+  writes-fit o f d low below isf w = go (take (len - f) d) (length-take (len - f) d)
+    where
+      len : ℕ
+      len = length (contentsOf (entryAt (x .view) o))
+
+      u : List ℕ
+      u = drop (len - f) d
+
+      -- the rest lies in the block behind the length
+      rest : 1 ≤ length u → RangeFields (g .objects) (g .blocks) few o len u
+      rest k =
+          let e = length-drop (len - f) d in
+          record { low = low; object = below; some = k; oneBlock = omega (arith, w .1, w .2); within = omega (arith, w .2, w .3) }
+
+      go : (t : List ℕ) → length t ≡ min (len - f) (length d) → FitInTurn (g .objects) (g .blocks) (x .view) (onBytes t (λ z. Operation.overwrite o f z) ++ onBytes u (λ z. Operation.append o len z))
+      go [] e = append-fit (x .view) o len u isf refl rest
+      go (a ∷ t) e =
+          let inner : f + length (a ∷ t) ≤ len = omega (arith, w .2) in
+          let r : RangeFields (g .objects) (g .blocks) few o f (a ∷ t) = record { low = low; object = below; some = omega arith; oneBlock = omega (arith, w .1); within = omega (arith, w .3) } in
+          let y = overwritten-file (x .view) o f (a ∷ t) isf inner in (
+            rw (isf, le-leb (f + length (a ∷ t)) len inner),
+            overwrite-recordable (g .objects) (g .blocks) few (blocks-few g (s .range)) o f (a ∷ t) r,
+            append-fit (apply (x .view) (Operation.overwrite o f (a ∷ t))) o len u (y .0) (y .1) rest,
+          )
+
+  -- an accepted write has some bytes
+  pub write-some : (p o f : ℕ) (d : List ℕ) → writeOf g p o f d x .returned ≡ 0 → 1 ≤ length d
+  unfolding writeOf
+  write-some p o f d e =
+      let r = change-passed g (write p o f d) p (writeRows (g .blocks) (x .view) o f d) x refl e .1 in
+      write-range f (length d) (length (contentsOf (entryAt (x .view) o))) (r .1 .1 .1 .0) .0
+
+  pub write-accepted : (p o f : ℕ) (d : List ℕ) → writeOf g p o f d x .returned ≡ 0 → Issuing g x p (writes (x .view) o f d)
   unfolding writeOf
   write-accepted p o f d e =
-      let len = length (contentsOf (entryAt (x .view) o)) in
       let a = change-passed g (write p o f d) p (writeRows (g .blocks) (x .view) o f d) x refl e in
       let r = a .1 in
       let isf : isFile (entryAt (x .view) o) ≡ true = not-false _ (r .1 .1 .0) in
-      let w = write-range f (length d) len (r .1 .1 .1 .0) in
-      let y = written-one o f d (record { low = not-root o isf; object = below o (r .0); some = w .0; oneBlock = w .1; within = w .4 }) isf (w .3) (eqb f len) refl in
-      record { program = a .0; fit = (y .0, y .1, tt); room = ltb-false _ _ (r .1 .1 .1 .1 .0); number = ltb-false _ _ (r .1 .1 .1 .1 .1 .0) }
+      let w = write-range f (length d) (length (contentsOf (entryAt (x .view) o))) (r .1 .1 .1 .0) in
+      record {
+        program = a .0;
+        fit = writes-fit o f d (not-root o isf) (below o (r .0)) isf w;
+        room = ltb-false _ _ (r .1 .1 .1 .1 .0);
+        number = ltb-false _ _ (r .1 .1 .1 .1 .1 .0);
+      }
 
   -- no object of a list is outside: each is below n
   all-below : (l : List ℕ) → any (outside (x .view)) l ≡ false → allBelow (g .objects) l ≡ true

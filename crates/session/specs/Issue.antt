@@ -1,8 +1,9 @@
 -- Document 01, "Calls": the operations that a change or forder issues, completed from the view.
-use Prim.Native.Nat.{ℕ}
-use mathlib.Core.List.{List, [], _∷_}
+use Prim.Native.Nat.{ℕ, _-_}
+use mathlib.Core.List.{List, [], _∷_, _++_}
 use mathlib.Core.Bool.{Bool, true, false, cond}
 use mathlib.Core.Option.{Option, none, some}
+use lib.ListN
 use lib.ListN.{length}
 use lib.Dec.{eqb}
 use Rattle.records.specs.Operation.{Operation}
@@ -21,9 +22,19 @@ abbrev pub onFound : Option ℕ → (ℕ → Operation) → List Operation
 onFound none f = []
 onFound (some o) f = f o ∷ []
 
--- "wholly inside the length (overwrite) or beginning at the length (append)"
-abbrev pub writes : Volume → ℕ → ℕ → List ℕ → Operation
-writes v o f s = cond (eqb f (length (contentsOf (entryAt v o)))) (Operation.append o f s) (Operation.overwrite o f s)
+-- the operation that writes some bytes; none where there are none
+abbrev pub onBytes : List ℕ → (List ℕ → Operation) → List Operation
+onBytes [] f = []
+onBytes (a ∷ s) f = f (a ∷ s) ∷ []
+
+-- "wholly inside the length (overwrite) or beginning at the length (append)"; across the end of the file "an overwrite and then an
+-- append" (document 02, K1): an overwrite of the bytes up to the length, and an append of the rest at the length
+abbrev pub writesAt : ℕ → ℕ → ℕ → List ℕ → List Operation
+writesAt len o f s =
+    onBytes (ListN.take (len - f) s) (λ t. Operation.overwrite o f t) ++ onBytes (ListN.drop (len - f) s) (λ t. Operation.append o len t)
+
+abbrev pub writes : Volume → ℕ → ℕ → List ℕ → List Operation
+writes v o f s = writesAt (length (contentsOf (entryAt v o))) o f s
 
 -- the operations that a call issues where it is accepted
 abbrev pub issues : Volume → Call → List Operation
@@ -35,7 +46,7 @@ issues v (createFile p d n o) = Operation.createFile o d n ∷ []
 issues v (makeDirectory p d n o) = Operation.makeDirectory o d n ∷ []
 issues v (remove p d n) = onFound (search v d n) (λ o. Operation.remove o d n)
 issues v (rename p d n e k) = onFound (search v d n) (λ o. Operation.rename o d e (displaced o (search v e k)) n k)
-issues v (write p o f s) = writes v o f s ∷ []
+issues v (write p o f s) = writes v o f s
 issues v (setLength p o f) = Operation.setLength o f ∷ []
 issues v (forder p s) = Operation.forder (objectsOf s) ∷ []
 issues v (push q) = []

@@ -48,16 +48,18 @@ note-issuable g p o os x i =
     let number = i .number in
     record { program = i .program; fit = i .fit .0; recordable = i .fit .1; room = omega arith; number = omega arith }
 
-pub issuing-possible : (g : Geometry) (p : ℕ) (os : List Operation) (x : Model) → Issuing g x p os → AllPossible g x (issuing p os)
-unfolding issuing
-issuing-possible g p [] x i = tt
-issuing-possible g p (o ∷ os) x i =
-    let y = perform (issue p o) (perform (note p (operands o)) x) in
+-- after the first, what is left of them has what it needs
+pub issuing-rest : (g : Geometry) (p : ℕ) (o : Operation) (os : List Operation) (x : Model) → Issuing g x p (o ∷ os) → Issuing g (perform (issue p o) (perform (note p (operands o)) x)) p os
+issuing-rest g p o os x i =
     let n = note-issue p o x in
     let l = n .1 in
     let k = n .2 in
     let room = i .room in
     let number = i .number in
-    let rest : Issuing g y p os =
-    record { program = i .program; fit = subst (λ (v : Volume). FitInTurn (g .objects) (g .blocks) v os) (sym (n .0)) (i .fit .2); room = omega arith; number = omega arith } in
-    (i .program, (note-issuable g p o os x i, issuing-possible g p os y rest))
+    record { program = i .program; fit = subst (λ (v : Volume). FitInTurn (g .objects) (g .blocks) v os) (sym (n .0)) (i .fit .2); room = omega arith; number = omega arith }
+
+pub issuing-possible : (g : Geometry) (p : ℕ) (os : List Operation) (x : Model) → Issuing g x p os → AllPossible g x (issuing p os)
+unfolding issuing
+issuing-possible g p [] x i = tt
+issuing-possible g p (o ∷ os) x i =
+    (i .program, (note-issuable g p o os x i, issuing-possible g p os (perform (issue p o) (perform (note p (operands o)) x)) (issuing-rest g p o os x i)))

@@ -3,6 +3,7 @@ pub mod Refusal
 pub mod Model
 pub mod Question
 pub mod Issue
+pub mod WriteLaws
 pub mod Edit
 pub mod Effect
 pub mod Send

@@ -1,11 +1,11 @@
--- What lists of effects leave, in the log's own terms: an operation issued with its dependence, and sends one after the other.
+-- What sends one after the other leave, in the log's own terms.
 use Prim.Native.Nat.{ℕ, _<_}
 use native.Mathlib.Omega.{arith}
 use mathlib.Core.Path.{_≡_, refl, sym, ap, _∙_, subst}
 use mathlib.Core.Bool.{true}
 use mathlib.Core.Option.{Option, some}
 use mathlib.Core.List.{List, [], _∷_, List·Memᴰ, List·Memᴰ·head, List·Memᴰ·tail}
-use Rattle.records.specs.Operation.{Operation, Record, operands}
+use Rattle.records.specs.Operation.{Record}
 use Rattle.applies.specs.Apply.{apply}
 use Rattle.log.specs.Slot.{wellFormed}
 use Rattle.log.specs.Change.{waitingOf, waitingAt}
@@ -13,15 +13,9 @@ use Rattle.log.specs.Change
 use Rattle.log.specs.ChangeLaws.{waiting-at, sent-good, sent-waiting}
 use Rattle.log.specs.OrderLaws.{Rising}
 use Rattle.log.specs.Sends.{applyAll, sentAll}
-use Rattle.session.specs.Model.{Model, withServer, withView, withLog}
+use Rattle.session.specs.Model.{Model, withServer, withLog}
 use Rattle.session.specs.ReadyLaws.{around}
-use Rattle.session.specs.Effect.{sentFound, perform, performAll, sends, issuing}
-
--- One operation of a call: its dependence is noted, and it is issued.
-pub issuing-one : (p : ℕ) (o : Operation) (x : Model)
-    → performAll (issuing p (o ∷ [])) x ≡ withView (apply (x .view) o) (withLog (Change.issue p o (Change.note p (operands o) (x .log))) x)
-unfolding performAll perform issuing
-issuing-one p o x = refl
+use Rattle.session.specs.Effect.{sentFound, perform, performAll, sends}
 
 -- Sends of waiting operations in issue order: each is applied to the server and leaves the log.
 pub sends-performed : (n b m : ℕ) (rs : List Record) (x : Model) → wellFormed n b m (x .log) ≡ true → Rising (λ (r : Record). r .sequence) rs

@@ -1,50 +1,33 @@
 -- Write, set length and forder as changes: their tables, and what each issues where its table lets it pass. Assumes nothing.
-use Prim.Native.Nat.{ℕ, _%_, _<_}
+use Prim.Native.Nat.{ℕ, _%_, _≤_}
 use mathlib.Core.Path.{_≡_, refl, sym, _∙_}
 use mathlib.Core.List.{List, [], _∷_}
-use mathlib.Core.Bool.{Bool, true, false, cond}
 use lib.ListN.{length}
-use Rattle.records.specs.declared.kind.Kind.the-variants.{Overwrite, Append}
-use Rattle.records.specs.Kind.{mapOfKind}
-use Rattle.records.specs.Operation.{Operation, recordOf}
+use Rattle.records.specs.Operation.{Operation}
 use Rattle.records.specs.Fields.{objectsOf}
-use Rattle.writer.specs.Code.Writer.{rangeRecord, forderRecord}
-use Rattle.entry.specs.Entry.{contentsOf}
-use Rattle.search.specs.Volume.{entryAt}
+use Rattle.writer.specs.Code.Writer.{forderRecord}
 use Rattle.search.specs.Stored.{readVolume}
-use Rattle.search.specs.LentLaws.{length-read}
 use Rattle.search.specs.Code.Lent.{Formed}
 use Rattle.applies.specs.Apply.{apply}
 use Rattle.log.specs.Stored.{readLog}
 use Rattle.issuing.specs.Code.Issued.{Waits, Issued}
 use Rattle.session.specs.Call.{Call, geometry}
 use Rattle.session.specs.Call
-use Rattle.session.specs.Refusal.{row}
 use Rattle.session.specs.Issue.{writes}
-use Rattle.session.specs.Edit.{badRange, writeRows, writeOf, lengthRows, setLengthOf, forderRows, forderOf}
+use Rattle.session.specs.Edit.{writeRows, writeOf, lengthRows, setLengthOf, forderRows, forderOf}
 use Rattle.session.specs.Step.{answerOf}
 use Rattle.session.specs.Code.Table.{firstNumber}
 use Rattle.session.specs.IssuingLaws.{Issuing}
-use Rattle.session.specs.EditLaws.{write-accepted, length-accepted, forder-accepted}
+use Rattle.session.specs.EditLaws.{write-some, write-accepted, length-accepted, forder-accepted}
 use Rattle.admission.specs.Code.Admitted.{modelIn, Admitted}
-use Rattle.changing.specs.Code.Change.{changeNumber, Change}
+use Rattle.changing.specs.Code.Change.{changeNumber, Change, MayIssue}
 use Rattle.changing.specs.ChangeLaws.{change-accepted, change-own}
-use Rattle.writing.specs.FileLaws.{file-below}
 use Rattle.writing.specs.ListLaws.{list-even}
 
--- The record of a write by its kind is that of the operation that a write issues.
-pub range-kind : (t : Bool) → mapOfKind (cond t Append Overwrite) ≡ mapOfKind Overwrite
-range-kind true = refl
-range-kind false = refl
-
-pub range-record : (t : Bool) (q p o f : ℕ) (d : List ℕ) → rangeRecord (cond t Append Overwrite) q p o f d ≡ recordOf q p (cond t (Operation.append o f d) (Operation.overwrite o f d))
-unfolding rangeRecord
-range-record true q p o f d = refl
-range-record false q p o f d = refl
-
 module _ {n b m : ℕ} {s v l : List ℕ} (h : Admitted n b m s v l) (p : ℕ) where
-  module _ (o f : ℕ) (d : List ℕ) (own : ℕ) (number : own ≡ firstNumber (writeRows b (readVolume n b v) o f d)) where
-    pub write-change : Change n b m p s v l (Call.write p o f d) own 1
+  module _ (o f : ℕ) (d : List ℕ) (own count : ℕ) (number : own ≡ firstNumber (writeRows b (readVolume n b v) o f d))
+      (many : count ≡ length (writes (readVolume n b v) o f d)) where
+    pub write-change : Change n b m p s v l (Call.write p o f d) own count
     unfolding answerOf writeOf
     write-change =
         record {
@@ -53,22 +36,26 @@ module _ {n b m : ℕ} {s v l : List ℕ} (h : Admitted n b m s v l) (p : ℕ) w
           is = refl;
           rise = refl;
           number = number;
-          many = λ z. refl;
+          many = λ z. sym many;
           plain = λ k. refl;
           quiet = λ k. refl;
           effects = refl;
         }
 
-    module _ (k : ℕ) (e : k ≡ changeNumber (geometry n b m) (readLog m l) p own 1) (z : k ≡ 0) where
-      pub write-issuing : Issuing (geometry n b m) (modelIn n b m s v l) p (writes (readVolume n b v) o f d ∷ [])
+    -- An accepted write has some bytes, and its operations may be issued.
+    module _ (k : ℕ) (e : k ≡ changeNumber (geometry n b m) (readLog m l) p own count) (z : k ≡ 0) where
+      pub write-bytes : 1 ≤ length d
       unfolding answerOf
-      write-issuing = write-accepted (geometry n b m) (modelIn n b m s v l) (h .holds .sound) p o f d (change-accepted write-change k e z)
+      write-bytes = write-some (geometry n b m) (modelIn n b m s v l) (h .holds .sound) p o f d (change-accepted write-change k e z)
 
-      -- The object of an accepted write is below n.
-      pub write-below : o < n
-      write-below =
-          let range = row 12 (badRange b (length (contentsOf (entryAt (readVolume n b v) o))) f (length d)) in
-          rw (length-read n b v) at (file-below (readVolume n b v) o (range ∷ []) (sym (change-own write-change k e z) ∙ number))
+      pub write-issuing : MayIssue n b m p v l (writes (readVolume n b v) o f d)
+      unfolding answerOf
+      write-issuing =
+          record {
+            server = s;
+            held = h;
+            issuing = write-accepted (geometry n b m) (modelIn n b m s v l) (h .holds .sound) p o f d (change-accepted write-change k e z);
+          }
 
   module _ (o f : ℕ) (own : ℕ) (number : own ≡ firstNumber (lengthRows b (readVolume n b v) o f)) where
     pub length-change : Change n b m p s v l (Call.setLength p o f) own 1

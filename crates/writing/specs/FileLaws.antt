@@ -3,12 +3,12 @@ use Prim.Native.Nat.{ℕ, _+_, _*_, _-_, _%_, _≤_, _<_}
 use native.Mathlib.Omega.{arith}
 use mathlib.Core.Path.{_≡_, refl, sym, ap, _∙_}
 use mathlib.Core.List.{List, [], _∷_}
-use mathlib.Core.Bool.{Bool, true, false, not, _&&_, _||_}
-use lib.ListN.{length}
+use mathlib.Core.Bool.{Bool, true, false, not, _||_}
+use lib.ListN.{length, List·getD-eq-default}
 use lib.Dec.{ltb, eqb}
 use borrow.Author.Tests.{ltb-true, ltb-false, lt-ltb, le-ltb, eq-eqb, ne-eqb}
 use Rattle.returned.specs.Returned
-use Rattle.entry.specs.Entry.{isUsed, isFile}
+use Rattle.entry.specs.Entry.{Entry, free, isUsed, isFile, contentsOf}
 use Rattle.search.specs.Volume.{Volume, entryAt}
 use Rattle.session.specs.Refusal.{Row, row}
 use Rattle.session.specs.Edit.{badRange, fileRows}
@@ -46,7 +46,11 @@ module _ (v : Volume) (o : ℕ) where
   unfolding firstNumber
   range-passed t e h = sym (first-right 0 (fileRows v o []) (row Returned.badRange t ∷ []) refl (sym e) ∙ rw h)
 
--- "write of 0 bytes, across blocks or the end of file, beyond length or b": each makes a range bad.
+-- Past the end of a volume there is no file, and so no bytes.
+pub past-empty : (v : Volume) (o : ℕ) → length v ≤ o → length (contentsOf (entryAt v o)) ≡ 0
+past-empty v o h = ap (λ (e : Entry). length (contentsOf e)) (List·getD-eq-default v free h)
+
+-- "write of 0 bytes, across blocks .., beyond length or b": each makes a range bad.
 module _ (b len f n : ℕ) where
   pub empty-bad : n ≡ 0 → badRange b len f n ≡ true
   empty-bad e = rw (eq-eqb n 0 e)
@@ -57,16 +61,9 @@ module _ (b len f n : ℕ) where
   pub beyond-bad : len < f → badRange b len f n ≡ true
   beyond-bad h = or-right (eqb n 0 || ltb 1024 (f % 1024 + n)) _ (rw (lt-ltb len f h))
 
-  pub end-bad : f < len → len < f + n → badRange b len f n ≡ true
-  end-bad h k = or-right (eqb n 0 || ltb 1024 (f % 1024 + n)) _ (rw (lt-ltb f len h, lt-ltb len (f + n) k) (or-left _ _ (or-right (ltb len f) true refl)))
-
   -- Where none of these holds the last decides.
-  pub last-bad : (n ≡ 0 → ⊥) → f % 1024 + n ≤ 1024 → f ≤ len → (f < len → f + n ≤ len) → badRange b len f n ≡ ltb (1024 * b) (f + n)
-  last-bad z h k i = rw (ne-eqb n 0 z, le-ltb 1024 (f % 1024 + n) h, le-ltb len f k) (ap (λ (t : Bool). t || ltb (1024 * b) (f + n)) (go (ltb f len) refl))
-    where
-      go : (t : Bool) → ltb f len ≡ t → (t && ltb len (f + n)) ≡ false
-      go true e = le-ltb len (f + n) (i (ltb-true f len e))
-      go false e = refl
+  pub last-bad : (n ≡ 0 → ⊥) → f % 1024 + n ≤ 1024 → f ≤ len → badRange b len f n ≡ ltb (1024 * b) (f + n)
+  last-bad z h k = rw (ne-eqb n 0 z, le-ltb 1024 (f % 1024 + n) h, le-ltb len f k)
 
 -- What is left behind an offset is compared with a count as the whole with their sum.
 pub room-left : (whole f n : ℕ) → f ≤ whole → ltb (whole - f) n ≡ ltb whole (f + n)

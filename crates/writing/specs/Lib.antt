@@ -1,3 +1,4 @@
 pub mod FileLaws
 pub mod ListLaws
+pub mod WriteLaws
 pub mod CallLaws

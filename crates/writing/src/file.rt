@@ -1,6 +1,5 @@
 // The length of a file that a call names by its number.
 ghost use mathlib.Core.Path.{_≡_};
-ghost use Prim.Native.Nat.{_<_};
 ghost use lib.ListN.{length};
 ghost use Rattle.entry.specs.Entry.{contentsOf};
 ghost use Rattle.search.specs.Volume.{entryAt};
@@ -9,11 +8,13 @@ ghost use Rattle.search.specs.Code.Lent.{Lent};
 use entry::field::contents;
 use search::entries::entry;
 
-// A file's length.
+// A file's length; 0 of an object n or more.
 pub fn length_of(view: &[u8], n: usize, b: usize, object: usize) -> usize
     requires { ⌜ Lent n b (now view) ⌝ }
-    requires { ⌜ object < n ⌝ }
     ensures { λ r. ⌜ r ≡ length (contentsOf (entryAt (readVolume n b (now (view .entry))) object)) ⌝ }
 {
+    if n <= object {
+        return 0;
+    }
     contents(entry(view, n, b, object)).len()
 }

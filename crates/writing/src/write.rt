@@ -1,12 +1,7 @@
-// "Write lies in one block: wholly inside the length (overwrite) or beginning at the length (append)."
+// "Write lies in one block": of the bytes of a file, or beginning at its end, or across the end.
 ghost use mathlib.Core.Path.{_≡_};
-ghost use Prim.Native.Nat.{_<_, _≤_};
-ghost use mathlib.Core.Bool.{cond};
+ghost use Prim.Native.Nat.{_≤_};
 ghost use mathlib.Core.List.{[], _∷_};
-ghost use lib.ListN.{length};
-ghost use lib.Dec.{eqb};
-ghost use Rattle.entry.specs.Entry.{contentsOf};
-ghost use Rattle.search.specs.Volume.{entryAt};
 ghost use Rattle.search.specs.Stored.{readVolume};
 ghost use Rattle.search.specs.Code.Lent.{Lent};
 ghost use Rattle.session.specs.Call.{geometry, buffers};
@@ -15,17 +10,17 @@ ghost use Rattle.session.specs.Step.{given, step};
 ghost use Rattle.session.specs.Edit.{badRange, writeRows};
 ghost use Rattle.session.specs.Code.Table.{firstNumber};
 use crate::file::length_of;
+use crate::operations::issue_writes;
+use crate::operations::operations;
 use admission::lent::admit;
 use admission::object::file_refusal;
 use changing::change_refusal;
 use entry::BLOCK;
-use issuing::shapes::issue_range;
-use records::kind::Kind;
 use returned::ACCEPTED;
 use returned::BAD_RANGE;
 use returned::Value;
 
-// "12 Bad range: write of 0 bytes, across blocks or the end of file, beyond length or b": for numbers of any size.
+// "12 Bad range: write of 0 bytes, across blocks .., beyond length or b": for numbers of any size.
 fn bad_range(b: usize, len: usize, offset: usize, count: usize) -> bool
     requires { ⌜ b ≤ 64 ⌝ }
     ensures { λ r. ⌜ r ≡ badRange b len offset count ⌝ }
@@ -41,11 +36,6 @@ fn bad_range(b: usize, len: usize, offset: usize, count: usize) -> bool
     }
     if len < offset {
         return true;
-    }
-    if offset < len {
-        if len - offset < count {
-            return true;
-        }
     }
     let most = BLOCK * b;
     if most < offset {
@@ -77,18 +67,6 @@ pub fn write_refusal(
     ACCEPTED
 }
 
-// Append where the offset is the file's length, else overwrite.
-fn kind_at(view: &[u8], n: usize, b: usize, object: usize, offset: usize) -> Kind
-    requires { ⌜ Lent n b (now view) ⌝ }
-    requires { ⌜ object < n ⌝ }
-    ensures { λ r. ⌜ r ≡ cond (eqb offset (length (contentsOf (entryAt (readVolume n b (now (view .entry))) object)))) Kind.Append Kind.Overwrite ⌝ }
-{
-    if offset == length_of(view, n, b, object) {
-        return Kind::Append;
-    }
-    Kind::Overwrite
-}
-
 pub fn write(
     n: usize,
     b: usize,
@@ -108,11 +86,12 @@ pub fn write(
         return Value::refused(wrong);
     }
     let own = write_refusal(view, n, b, object, offset, data);
-    let refused = change_refusal(log, n, b, m, program, own, 1);
+    let len = length_of(view, n, b, object);
+    let count = operations(len, offset, data);
+    let refused = change_refusal(log, n, b, m, program, own, count);
     if refused != ACCEPTED {
         return Value::refused(refused);
     }
-    let kind = kind_at(view, n, b, object, offset);
-    let number = issue_range(log, view, n, b, m, kind, program, object, offset, data);
+    let number = issue_writes(log, view, n, b, m, program, object, len, offset, data);
     Value::of(ACCEPTED, number)
 }

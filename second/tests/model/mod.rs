@@ -266,11 +266,23 @@ impl Register {
         found
     }
 
-    pub fn add(&mut self, program: u8, what: What) {
-        let number = self.operations.len() as u32 + 1;
-        let operation = Operation { number, program, what, issued: self.history.len(), fate: Fate::Waiting };
-        self.history.push(Event::Call { program, operands: operation.operands() });
-        self.operations.push(operation);
+    /// Adds the operations of one accepted call, in their order.
+    pub fn add(&mut self, program: u8, parts: Vec<What>) {
+        let issued = self.history.len();
+        let mut operands = BTreeSet::new();
+        for what in parts {
+            let number = self.operations.len() as u32 + 1;
+            let operation = Operation { number, program, what, issued, fate: Fate::Waiting };
+            operands.extend(operation.operands());
+            self.operations.push(operation);
+        }
+        self.history.push(Event::Call { program, operands });
+    }
+
+    /// The used slots: what waits, and the losses that are not taken.
+    pub fn used_slots(&self) -> u64 {
+        let kept = |one: &&Operation| matches!(one.fate, Fate::Waiting | Fate::Lost { taken: false, .. });
+        self.operations.iter().filter(kept).count() as u64
     }
 
     pub fn send(&mut self, number: u32) {
@@ -316,7 +328,7 @@ impl Register {
     }
 
     /// The marks after the whole history: each cut marks the dependents of what it lost, each renewal clears.
-    fn marks(&self) -> u32 {
+    pub fn marks(&self) -> u32 {
         let mut marks = 0;
         for (at, event) in self.history.iter().enumerate() {
             match event {

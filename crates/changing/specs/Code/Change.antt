@@ -5,6 +5,7 @@ use mathlib.Core.List.{List, [], _∷_, _++_}
 use mathlib.Core.Bool.{true, not}
 use lib.ListN.{length}
 use lib.Dec.{eqb}
+use Rattle.records.specs.Operation.{Operation}
 use Rattle.search.specs.Stored.{readVolume}
 use Rattle.log.specs.Slot.{Log}
 use Rattle.session.specs.Call.{Geometry, Call, geometry, answer, refusal}
@@ -16,6 +17,7 @@ use Rattle.session.specs.Effect.{issuing, acceptedEffects, refusedEffects}
 use Rattle.session.specs.Step.{answerOf}
 use Rattle.session.specs.Code.Table.{firstNumber, rising}
 use Rattle.session.specs.OutcomeLaws.{waitingIn}
+use Rattle.session.specs.IssuingLaws.{Issuing}
 use Rattle.admission.specs.Code.Admitted.{modelIn, Admitted}
 
 -- a table that is known by the number that it gives
@@ -42,3 +44,9 @@ pub record Change (n b m p : ℕ) (s v l : List ℕ) (c : Call) (own count : ℕ
   pub plain : Plain c
   pub quiet : (k : ℕ) → refusedEffects c (refusal k c) (waitingIn (modelIn n b m s v l)) ≡ []
   pub effects : acceptedEffects c (readVolume n b v) (waitingIn (modelIn n b m s v l)) ≡ issuing p (issues (readVolume n b v) c)
+
+-- operations of a program that may be issued one after the other on a view and a log, whatever server volume is lent with them
+pub record MayIssue (n b m p : ℕ) (v l : List ℕ) (os : List Operation) : Type 0 where
+  pub server : List ℕ
+  pub held : Admitted n b m server v l
+  pub issuing : Issuing (geometry n b m) (modelIn n b m server v l) p os

@@ -1,10 +1,10 @@
 -- What is asked of an operation that is issued, and what issuing it leaves of the log and of the view.
 use Prim.Native.Nat.{ℕ, _<_}
 use mathlib.Core.Path.{_≡_}
-use mathlib.Core.List.{List, _++_}
+use mathlib.Core.List.{List, [], _∷_, _++_}
 use mathlib.Core.Bool.{true}
 use lib.ListN.{length}
-use Rattle.records.specs.Operation.{Record, operands}
+use Rattle.records.specs.Operation.{Operation, Record, recordOf, operands}
 use Rattle.records.specs.Fields.{encode, valid, fits}
 use Rattle.search.specs.Volume.{Volume}
 use Rattle.search.specs.Stored.{encodeVolume}
@@ -60,3 +60,18 @@ pub record Issued (n b m : ℕ) (number : ℕ) (log′ view′ : List ℕ) (v : 
   pub gives : number ≡ l .next
   pub log : log′ ≡ encodeLog m (issuedLog r l)
   pub view : view′ ≡ encodeVolume b (apply v (r .operation))
+
+-- operations of a program one after the other: what they leave of a log and of a volume
+unfoldable pub issuedAll : ℕ → List Operation → Log → Log
+issuedAll p [] l = l
+issuedAll p (o ∷ os) l = issuedAll p os (issuedLog (recordOf (l .next) p o) l)
+
+unfoldable pub appliedAll : List Operation → Volume → Volume
+appliedAll [] v = v
+appliedAll (o ∷ os) v = appliedAll os (apply v o)
+
+-- the sequence number of the first, and the log and the view afterwards
+pub record AllIssued (b m number : ℕ) (log′ view′ : List ℕ) (v : Volume) (l : Log) (p : ℕ) (os : List Operation) : Type 0 where
+  pub gives : number ≡ l .next
+  pub log : log′ ≡ encodeLog m (issuedAll p os l)
+  pub view : view′ ≡ encodeVolume b (appliedAll os v)

@@ -2,9 +2,8 @@
 use native.Mathlib.Omega.{arith}
 use Prim.Native.Nat.{_+_, _*_, _-_}
 use mathlib.Core.Path.{sym, _∙_}
-use mathlib.Core.Logic.{⊎-elim}
 use borrow.Author.Tests.{lt-ltb}
-use Rattle.writing.specs.FileLaws.{empty-bad, across-bad, beyond-bad, end-bad, last-bad, room-left}
+use Rattle.writing.specs.FileLaws.{empty-bad, across-bad, beyond-bad, last-bad, room-left}
 use borrow.Author.Needs.{needs}
 use Rattle.writing.proofs.write.bad_range.Statement.{statement}
 use Rattle.writing.proofs.write.bad_range.Tie as tie
@@ -24,25 +23,22 @@ returns-3 c = let a = c .before .before .before .args in sym (across-bad (a .b) 
 returns-4 : tie.Need-returns-4
 returns-4 c = let a = c .before .before .before .before .args in sym (beyond-bad (a .b) (a .len) (a .offset) (a .count) (c .if4 .taken))
 
-returns-5 : tie.Need-returns-5
-returns-5 c = let a = c .before .before .before .before .before .before .args in sym (end-bad (a .b) (a .len) (a .offset) (a .count) (omega arith) (omega arith))
-
 mul-most : tie.Need-mul-most
 mul-most c = search needs
 
+returns-5 : tie.Need-returns-5
+returns-5 c =
+    let a = c .before .before .before .before .before .args in
+    sym (last-bad (a .b) (a .len) (a .offset) (a .count) (c .before .before .before .before .if1 .left) (omega arith) (omega arith)
+    ∙ lt-ltb (1024 * a .b) (a .offset + a .count) (omega arith))
+
 returns-6 : tie.Need-returns-6
 returns-6 c =
-    let a = c .before .before .before .before .before .before .args in
-    sym (last-bad (a .b) (a .len) (a .offset) (a .count) (c .before .before .before .before .before .if1 .left) (omega arith) (omega arith)
-    (λ h. ⊎-elim (λ w. omega arith) (λ w. omega arith) (c .before .if5 .came)) ∙ lt-ltb (1024 * a .b) (a .offset + a .count) (omega arith))
-
-returns-7 : tie.Need-returns-7
-returns-7 c =
-    let a = c .before .before .before .before .before .before .args in
-    room-left (1024 * a .b) (a .offset) (a .count) (omega arith) ∙ sym (last-bad (a .b) (a .len) (a .offset) (a .count) (c .before .before .before .before .before .if1 .left) (omega arith) (omega arith)
-    (λ h. ⊎-elim (λ w. omega arith) (λ w. omega arith) (c .before .if5 .came)))
+    let a = c .before .before .before .before .before .args in
+    room-left (1024 * a .b) (a .offset) (a .count) (omega arith)
+    ∙ sym (last-bad (a .b) (a .len) (a .offset) (a .count) (c .before .before .before .before .if1 .left) (omega arith) (omega arith))
 
 pub bad-range-spec : {M : Type 1} → statement M
 bad-range-spec =
     tie.close
-    (tie.spec returns returns-2 add-if3 returns-3 returns-4 returns-5 mul-most returns-6 returns-7)
+    (tie.spec returns returns-2 add-if3 returns-3 returns-4 mul-most returns-5 returns-6)

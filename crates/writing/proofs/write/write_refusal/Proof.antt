@@ -7,10 +7,9 @@ use Prim.Native.Nat.{ℕ}
 use Rattle.entry.specs.Entry.{contentsOf}
 use Rattle.search.specs.Volume.{Volume, entryAt}
 use Rattle.search.specs.Stored.{readVolume}
-use Rattle.search.specs.LentLaws.{length-read}
 use Rattle.session.specs.Refusal.{row}
 use Rattle.session.specs.Edit.{badRange}
-use Rattle.writing.specs.FileLaws.{file-below, file-refused, range-refused, range-passed}
+use Rattle.writing.specs.FileLaws.{file-refused, range-refused, range-passed}
 use borrow.Author.Needs.{needs}
 use Rattle.writing.proofs.write.write_refusal.Statement.{statement}
 use Rattle.writing.proofs.write.write_refusal.Tie as tie
@@ -31,11 +30,7 @@ returns c =
     file-refused (volume s) (s .args .object) (row 12 (bad s) ∷ []) (c .before .file-refusal .result) (c .before .file-refusal .ensures) (c .if1 .taken)
 
 length-of-requires : tie.Need-length-of-requires
-length-of-requires c κs =
-    let f = c .before in
-    let s = f .before .before .before in
-    let a = s .args in
-    (s .pre, rw (length-read (a .n) (a .b) (a .view .now)) at (file-below (volume s) (a .object) [] (sym (c .if1 .left) ∙ f .file-refusal .ensures)))
+length-of-requires c κs = search needs
 
 bad-range-requires : tie.Need-bad-range-requires
 bad-range-requires c κs = search needs
