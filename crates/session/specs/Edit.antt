@@ -17,7 +17,8 @@ use Rattle.session.specs.Issue.{displaced, issues}
 use Rattle.session.specs.Refusal.{Row, row}
 use Rattle.session.specs.Model.{Model, unless, programRows, isBad, isLong, outside, isFree, objectRows, roomFor}
 
--- room for what the call issues: "m slots used", "next number is 4,294,967,295"
+-- room for what the call issues: "m slots used", "next number is 4,294,967,295"; across the end of a file "fewer than two slots are
+-- free", "fewer than two numbers are left" (document 02, K1)
 abbrev pub roomRows : Geometry → Call → Model → List Row
 roomRows g c x = roomFor g (x .log) (length (issues (x .view) c))
 

@@ -55,7 +55,7 @@ issues v cut = []
 issues v (take p s) = []
 issues v (renew p) = []
 
--- the changes and forder: "Each accepted change, and forder, .. takes one sequence number and waits"
+-- the changes and forder: "Each accepted change, and forder, .. takes one sequence number and waits", and two where it is two operations
 abbrev pub alters : Call → Bool
 alters (lookup p s) = false
 alters (list p o s) = false
