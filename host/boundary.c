@@ -275,6 +275,57 @@ static void session(void)
     BYTES(l.at, 10, 0, 0, 0, 0, 0, 0, 0, 0);
 }
 
+/* The log's next sequence number becomes one of the last. */
+static void set_next(uint8_t low_byte)
+{
+    memset(l.at, 255, 4);
+    l.at[0] = low_byte;
+}
+
+/* Writes across the end of file 1, which has 3 bytes: two operations, of which the first is answered. The log is empty and its
+ * next sequence number 10. */
+static void across_end(void)
+{
+    uint8_t *const in_view = v.at + ENTRY + 64, *const in_server = s.at + ENTRY + 64; /* length and data of entry 1 */
+    uint8_t *const second = l.at + 8 + (LOG - 8) / M;                                 /* the second slot */
+    VALUE(wb_write(LENT, 0, 1, 2, own.at, 1023), WB_BAD_RANGE, 0);
+    VALUE(wb_write(LENT, 0, 1, 2, TEXT("abc")), WB_ACCEPTED, 10);
+    BYTES(l.at, 12, 0, 0, 0, 0, 0, 0, 0, 1, 0, 0, 0, 1, 0, 0, 0, 193, 0, 10, 0, 0, 0, 0, 5, 1, 0, 2, 0, 0, 0, 1, 0, 'a', 0);
+    BYTES(second, 1, 0, 0, 0, 1, 0, 0, 0, 193, 0, 11, 0, 0, 0, 0, 6, 1, 0, 3, 0, 0, 0, 2, 0, 'b', 'c', 0);
+    BYTES(in_view, 5, 0, 0, 0, 'h', 'i', 'a', 'b', 'c', 0);
+    BYTES(in_server, 3, 0, 0, 0, 'h', 'i', '\n', 0);
+    CODE(wb_push(LENT, 11), WB_NOT_FIRST);
+    CODE(wb_push(LENT, 10), WB_ACCEPTED);
+    BYTES(in_server, 3, 0, 0, 0, 'h', 'i', 'a', 0);
+    CODE(wb_cut(LENT), WB_ACCEPTED);
+    SAME(v.at, s.at, VOLUME);
+    memset(own.at, 170, own.length);
+    VALUE(wb_take(LENT, 0, OWN), WB_ACCEPTED, 18);
+    BYTES(own.at, 193, 0, 11, 0, 0, 0, 0, 6, 1, 0, 3, 0, 0, 0, 2, 0, 'b', 'c', 170);
+    RECORD(wb_record(0, OWN), 0, 18, 11, 0, 6, 193, 1, 0, 0, 0, 0, 0, 0, 0, 3, 16, 2, 0, 0);
+    VALUE(wb_take(LENT, 0, OWN), WB_NONE, 0);
+    CODE(wb_renew(LENT, 0), WB_ACCEPTED);
+    VALUE(wb_forder(LENT, 1, TEXT("\0\0")), WB_ACCEPTED, 12);
+    VALUE(wb_forder(LENT, 1, TEXT("\0\0")), WB_ACCEPTED, 13);
+    VALUE(wb_forder(LENT, 1, TEXT("\0\0")), WB_ACCEPTED, 14);
+    REFUSED(WRITE, offset, 2, WB_LOG_FULL);
+    VALUE(wb_write(LENT, 0, 1, 1, TEXT("xy")), WB_ACCEPTED, 15);
+    REFUSED(WRITE, offset, 2, WB_LOG_FULL);
+    VALUE(wb_fsync(LENT, 0, 1, WIDE), WB_ACCEPTED, 1);
+    VALUE(wb_fsync(LENT, 1, 0, WIDE), WB_ACCEPTED, 3);
+    set_next(254);
+    REFUSED(WRITE, offset, 2, WB_SPENT);
+    VALUE(wb_write(LENT, 0, 1, 1, TEXT("zz")), WB_ACCEPTED, WB_LAST_SEQUENCE);
+    REFUSED(WRITE, offset, 2, WB_SPENT);
+    CODE(wb_push(LENT, WB_LAST_SEQUENCE), WB_ACCEPTED);
+    set_next(253);
+    VALUE(wb_write(LENT, 31, 1, 0, TEXT("abcde")), WB_ACCEPTED, WB_LAST_SEQUENCE - 1);
+    BYTES(l.at, 255, 255, 255, 255, 0, 0, 0, 0, 1, 0, 0, 0, 0, 0, 0, 128, 193, 0, 253, 255, 255, 255, 31, 5);
+    BYTES(second, 1, 0, 0, 0, 0, 0, 0, 128, 193, 0, 254, 255, 255, 255, 31, 6, 1, 0, 3, 0, 0, 0, 2, 0, 'd', 'e', 0);
+    VALUE(wb_fsync(LENT, 31, 1, 2), WB_ACCEPTED, 2);
+    BYTES(in_server, 5, 0, 0, 0, 'a', 'b', 'c', 'd', 'e', 0);
+}
+
 int main(void)
 {
     uint8_t guard[GUARD], root[VOLUME] = {2};
@@ -293,6 +344,7 @@ int main(void)
     refusals();
     records();
     session();
+    across_end();
     for (i = 0; i < 4; i++) {
         SAME(areas[i], guard, GUARD);
         SAME(areas[i] + sizes[i] - GUARD, guard, GUARD);

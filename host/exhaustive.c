@@ -1,14 +1,15 @@
 /* Bounded and exhaustive: all sequences of up to 4 operations from a small alphabet on 3 objects, every closed set of them sent
- * by pushes in every order, then a cut. Run it with ./exhaustive. What buffers, answers, marks and losses have to be is
- * reckoned by the host alone, in exhaustive_parts/trial.c. It stops with 1 at the first difference. */
+ * by pushes in every order, then a cut. A write across the end of a file is two operations of a sequence. Run it with
+ * ./exhaustive. What buffers, answers, marks and losses have to be is reckoned by the host alone, in exhaustive_parts/trial.c.
+ * It stops with 1 at the first difference. */
 #include <string.h>
 #include <time.h>
 #include "trial.h"
 
 static const struct assignment assignments[] = {
     {"0, 1, 2, 3; 5 asks before each cut", 5, {0, 1, 2, 3, 4}, BEFORE_CUT},
-    {"0, 1, 0, 1; 5 asks after the last operation", 2, {0, 1, 0, 1, 0}, AFTER_LAST},
-    {"0, 0, 1, 1; 5 asks after the first operation", 2, {0, 0, 1, 1, 0}, AFTER_FIRST},
+    {"0, 1, 0, 1; 5 asks after the last call", 2, {0, 1, 0, 1, 0}, AFTER_LAST},
+    {"0, 0, 1, 1; 5 asks after the first call", 2, {0, 0, 1, 1, 0}, AFTER_FIRST},
 };
 enum { ASSIGNMENTS = sizeof assignments / sizeof assignments[0] };
 
@@ -61,12 +62,29 @@ static void recover(struct buffers *lent, uint64_t program, struct remains *left
     answered("the root's status after renewing", wb_stat(LENT(lent), program, 0).returned, WB_ACCEPTED);
 }
 
+/* What a cut with the set sent leaves of each write across the end: perhaps the overwrite without the append, never the reverse.
+ * This is asked of the sends alone, whatever order the host reckons. */
+static void check_across(unsigned sent)
+{
+    uint64_t i;
+    for (i = 1; i < now.issued; i++) {
+        if (!in(now.rests, i))
+            continue;
+        if (in(sent, i) && !in(sent, i - 1))
+            fail("operation %d, an append, was sent without the overwrite of the same write", (int)i + 1);
+        counts.both += (uint64_t)in(sent, i);
+        counts.overwrite_alone += in(sent, i - 1) && !in(sent, i);
+        counts.neither += !in(sent, i - 1);
+    }
+}
+
 /* After a cut with the set sent: the dependents of all others are marked. The programs that issue, one that does nothing and the
  * asker recover, and then the log is empty. */
 static void check_recovery(struct buffers *lent, unsigned sent, const uint32_t dependents[MOST])
 {
     struct remains left;
     uint64_t program;
+    check_across(sent);
     outcome(sent, left.volume);
     left.losses = all() & ~sent;
     left.marks = dependents_of(left.losses, dependents);
@@ -223,34 +241,68 @@ static struct wb_value call(struct buffers *lent, const struct operation *given)
     }
 }
 
-/* Issues the letter in a copy of the present stage. Tells whether it is accepted, as it is if the host reckons so. */
-static int issue(const struct letter *letter)
+/* The letter as the operations of a call that comes next, a write across the end as two. Gives the one that the call asks for. */
+static struct operation ask_for(const struct letter *letter)
 {
-    struct stage *next = stage() + 1;
+    const struct volume view = volume_of(stage()->view);
+    struct operation whole;
+    spell(letter, &view, now.issued + 1, &whole);
+    whole.program = now.assignment->programs[now.issued];
+    now.asked = divide(&view, &whole, &now.operations[now.issued]);
+    now.rests &= ~(3u << now.issued);
+    now.rests |= now.asked == 2 ? 2u << now.issued : 0;
+    return whole;
+}
+
+/* The next of the operations asked for is issued: what the host reckons at a stage after it. */
+static void note_issued(struct stage *next)
+{
+    const struct operation *operation = &now.operations[now.issued];
     struct volume view = volume_of(next->view);
-    struct operation *operation = &now.operations[now.issued];
     uint64_t objects[WB_LIST_OBJECTS];
+    depend(next->dependents, operation->program, objects, operands(operation, objects));
+    next->dependents[now.issued] = UINT32_C(1) << operation->program;
+    equal("whether an accepted operation applies to the view", (uint64_t)replay(&view, operation), 1);
+    now.issued++;
+    now.asked--;
+    counts.kinds[operation->kind]++;
+}
+
+/* The call is refused and changes nothing. One that only lacks a slot is refused for that. */
+static void check_refused(struct wb_value got, const struct buffers *lent, int lacks_slot)
+{
+    equal("whether the call is refused", got.returned != WB_ACCEPTED && got.value == 0, 1);
+    if (lacks_slot)
+        answered("a write across the end with one slot free", got.returned, WB_LOG_FULL);
+    unchanged("the refused call", lent, &stage()->lent);
+    now.asked = 0;
+    counts.refused++;
+    counts.one_slot += (uint64_t)lacks_slot;
+}
+
+/* Issues the letter in a copy of the present stage. Tells how many operations that are; none if it is refused, as it is if the
+ * host reckons so. */
+static uint64_t issue(const struct letter *letter)
+{
+    const struct operation whole = ask_for(letter), *first = &now.operations[now.issued];
+    const struct volume view = volume_of(stage()->view);
+    const uint64_t count = now.asked;
+    const int fits = now.issued + count <= now.most, sound = acceptable(&view, first);
+    struct stage *next = stage() + count;
     struct wb_value got;
     *next = *stage();
-    spell(letter, &view, now.issued + 1, operation);
-    operation->program = now.assignment->programs[now.issued];
-    got = call(&next->lent, operation);
-    if (!acceptable(&view, operation)) {
-        equal("whether the call is refused", got.returned != WB_ACCEPTED && got.value == 0, 1);
-        unchanged("the refused call", &next->lent, &stage()->lent);
-        counts.refused++;
+    got = call(&next->lent, &whole);
+    if (!sound || !fits) {
+        check_refused(got, &next->lent, sound);
         return 0;
     }
     answered("the call", got.returned, WB_ACCEPTED);
-    equal("the sequence number given", got.value, operation->sequence);
-    depend(next->dependents, operation->program, objects, operands(operation, objects));
-    next->dependents[now.issued] = UINT32_C(1) << operation->program;
-    replay(&view, operation);
-    now.issued++;
-    now.operations[now.issued].sequence = 0;
+    equal("the sequence number given", got.value, first->sequence);
+    while (now.asked > 0)
+        note_issued(next);
     check_waiting(&next->lent, 0, next->dependents);
-    counts.kinds[operation->kind]++;
-    return 1;
+    counts.across += count == 2;
+    return count;
 }
 
 static void show_progress(void)
@@ -282,17 +334,19 @@ static void try_sequence(void)
 /* The sequence issued so far, and all that begin with it. */
 static void try_all(void)
 {
-    uint64_t letter;
-    if (now.assignment->asks == AFTER_FIRST && now.issued == 1)
+    uint64_t letter, count;
+    if (now.assignment->asks == AFTER_FIRST && first_call())
         ask(&stage()->lent, stage()->dependents);
     try_sequence();
     if (now.issued == now.most)
         return;
-    for (letter = 0; letter < letter_count; letter++)
-        if (issue(&alphabet[letter])) {
-            try_all();
-            now.issued--;
-        }
+    for (letter = 0; letter < letter_count; letter++) {
+        count = issue(&alphabet[letter]);
+        if (count == 0)
+            continue;
+        try_all();
+        now.issued -= count;
+    }
 }
 
 /* Makes the starting volume by calls and pushes, and mounts it anew. */
@@ -303,7 +357,6 @@ static void prepare(void)
     struct operation operation;
     uint64_t i;
     memset(&now.stages[0], 0, sizeof now.stages[0]);
-    now.operations[0].sequence = 0;
     answered("format", wb_format(counted(N), B, SLOTS, lent->server, VOLUME).returned, WB_ACCEPTED);
     answered("mount", wb_mount(LENT(lent)).returned, WB_ACCEPTED);
     memcpy(view.bytes, lent->server, VOLUME);
@@ -331,6 +384,8 @@ static void print_alphabet(void)
     print_count(counts.touching, "pairs that share one and are not two overwrites");
     print_count(counts.loose, "pairs of overwrites of a file without a common byte");
     print_count(counts.common, "pairs of overwrites with a common byte");
+    print_count(counts.across, "writes across the end, an overwrite and an append each");
+    print_count(counts.one_slot, "writes across the end refused with one slot free");
 }
 
 static void print_counts(void)
@@ -346,6 +401,9 @@ static void print_counts(void)
     print_count(counts.cuts, "cuts after pushes");
     print_count(counts.fsyncs, "fsyncs");
     print_count(counts.links, "of them with too few sends");
+    print_count(counts.both, "writes across the end sent whole when the link broke");
+    print_count(counts.overwrite_alone, "with the overwrite sent and the append lost; none the other way round");
+    print_count(counts.neither, "lost whole");
     print_count(counts.losses, "losses fetched");
     print_count(counts.calls, "calls");
     printf("all %lu sequences held\n", (unsigned long)sequences);

@@ -192,6 +192,7 @@ static uint64_t sense(const struct call *call, uint64_t returned)
 static void make(void)
 {
     const struct call *const call = &progress.call;
+    const struct across across = across_of(call);
     union answer answers[2];
     uint64_t returned;
     int buffer;
@@ -206,6 +207,7 @@ static void make(void)
     if (returned >= RETURNED || !HAS(shapes[call->entry].returned, returned))
         stop(call, answers, "the entry cannot return this number");
     counts[call->entry][returned]++;
+    count_across(across, returned);
     note_answer(call, answers[PROVED].code.returned);
 }
 
@@ -237,8 +239,7 @@ static void begin_volume(void)
     begin_moments();
 }
 
-/* A number with commas, in one of a few rooms by turns. */
-static const char *commas(uint64_t number)
+const char *commas(uint64_t number)
 {
     static char rooms[4][32];
     static unsigned turn;
@@ -302,6 +303,7 @@ static unsigned say_counts(void)
         printf("\n");
         accepted += counts[entry][WB_ACCEPTED];
     }
+    missing += say_across();
     printf("%s calls, %s of them accepted\n", commas(progress.made), commas(accepted));
     return missing;
 }

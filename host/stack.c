@@ -30,6 +30,7 @@ static uint64_t make(void) { return wb_mkdir(LENT, 0, 0, (const uint8_t *)"new",
 static uint64_t remove_of(void) { return wb_remove(LENT, 0, 0, (const uint8_t *)"f200", 4).returned; }
 static uint64_t rename_of(void) { return wb_rename(LENT, 0, 0, (const uint8_t *)"f200", 4, 0, (const uint8_t *)"f1", 2).returned; }
 static uint64_t write_of(void) { return wb_write(LENT, 0, 1, 0, own, 1024).returned; }
+static uint64_t write_across(void) { return wb_write(LENT, 0, 2, 0, own, 1024).returned; }
 static uint64_t setlen(void) { return wb_setlen(LENT, 0, 1, 0).returned; }
 static uint64_t forder(void) { return wb_forder(LENT, 0, (const uint8_t *)"\1\0\2\0", 4).returned; }
 static uint64_t push(void) { return wb_push(LENT, last).returned; }
@@ -72,7 +73,8 @@ static size_t taken(uint64_t (*call)(void))
     return STACK - left;
 }
 
-/* Files 1 to 200 in the root, on the server with a block each; then a log full of overwrites, the last one of file 200 alone. */
+/* Files 1 to 200 in the root, on the server with a block each, but file 2 is shorter; then a log full of overwrites, the last one
+ * of file 200 alone. */
 static void prepare(void)
 {
     char name[8];
@@ -84,6 +86,7 @@ static void prepare(void)
         expect(wb_push(LENT, wb_create(LENT, 0, 0, (const uint8_t *)name, (uint64_t)length, (uint64_t)i).value).returned, 0, "push");
         expect(wb_push(LENT, wb_write(LENT, 0, (uint64_t)i, 0, own, 1024).value).returned, 0, "push");
     }
+    expect(wb_push(LENT, wb_setlen(LENT, 0, 2, 1000).value).returned, 0, "push");
     for (i = 0; i < M - 1; i++) {
         struct wb_value written = wb_write(LENT, 0, 1 + (uint64_t)i % 199, 0, own, 4);
         expect(written.returned, 0, "write");
@@ -120,6 +123,13 @@ static void one_free(void)
     expect(wb_push(LENT, first).returned, 0, "push");
 }
 
+/* Room for two more. */
+static void two_free(void)
+{
+    one_free();
+    expect(wb_push(LENT, first + 1).returned, 0, "push");
+}
+
 int main(void)
 {
     size_t base;
@@ -143,6 +153,8 @@ int main(void)
     measure("rename", rename_of, 0, base);
     one_free();
     measure("write", write_of, 0, base);
+    two_free();
+    measure("write across the end", write_across, 0, base);
     one_free();
     measure("setlen", setlen, 0, base);
     one_free();

@@ -1,9 +1,9 @@
 /*
  * An ordered write-behind volume. This header is the manual of the library libwritebehind.a.
  *
- * Programs, numbered 0 to 31, work on a view that answers at once. Each change waits as an operation in a log until it is
- * sent to a server volume. Sends keep an order. So at whatever moment the link to the server breaks, the server volume holds
- * a possible outcome, what was lost is known, and each program that depended on something lost is marked.
+ * Programs, numbered 0 to 31, work on a view that answers at once. Each change waits in a log, as an operation or as two,
+ * until it is sent to a server volume. Sends keep an order. So at whatever moment the link to the server breaks, the server
+ * volume holds a possible outcome, what was lost is known, and each program that depended on something lost is marked.
  *
  * THE BUFFERS. The caller chooses n objects, b blocks of 1,024 bytes a file and m log slots, and lends three byte buffers:
  * the server volume and the view, of WB_VOLUME_BYTES(n, b) bytes each, and the log, of WB_LOG_BYTES(m) bytes. They hold
@@ -32,10 +32,12 @@
  *
  * OPERATIONS AND THEIR ORDER. Each accepted change (create, make directory, remove, rename, write, set length) is made in the
  * view at once, gets the next sequence number, from 1 on, and waits in a slot of the log. So does an accepted forder, which
- * changes nothing in a volume. The operands of an operation are its object and every parent, displaced or listed object. Of
+ * changes nothing in a volume. Only a write across the end of a file is two operations, an overwrite and an append: it gets two
+ * numbers and waits in two slots. The operands of an operation are its object and every parent, displaced or listed object. Of
  * two waiting operations that share an operand the earlier precedes the later, unless both are overwrites without a common
  * byte. An operation precedes another also through a third and further ones. It is sent only after all that precede it. So a
- * forder stands between the earlier and the later operations on the objects of its list.
+ * forder stands between the earlier and the later operations on the objects of its list, and the append of a write across the
+ * end is sent only after its overwrite.
  *
  * DEPENDENCE. The log keeps, for each waiting operation, the programs that depend on it: the one that issued it, and each that
  * afterwards had an accepted call on one of its operands, or on an operand of a later operation to which a chain leads, each
@@ -111,8 +113,8 @@ enum wb_returned {
     WB_TAKEN = 10,        /* the name, or the number of the new object, is in use */
     WB_NOT_EMPTY = 11,    /* a directory to be removed or displaced has children */
     WB_BAD_RANGE = 12,    /* a write, a new length or an offset to read from is not as the call needs it */
-    WB_LOG_FULL = 13,     /* all m slots are used, by waiting and lost operations together */
-    WB_SPENT = 14,        /* there is no sequence number left */
+    WB_LOG_FULL = 13,     /* too few of the m slots are free: each waiting and each lost operation uses one */
+    WB_SPENT = 14,        /* too few sequence numbers are left */
     WB_NOT_FIRST = 15,    /* an operation that precedes this one waits */
     WB_NONE = 16,         /* no operation of that number waits; the program has no loss to take */
     WB_LINK_LOST = 17,    /* the link carries fewer sends than are needed */
@@ -139,7 +141,7 @@ static inline const char *wb_text(uint64_t number)
     case WB_NOT_EMPTY: return "directory not empty";
     case WB_BAD_RANGE: return "bad range: offset or length";
     case WB_LOG_FULL: return "log full";
-    case WB_SPENT: return "spent: no sequence number left";
+    case WB_SPENT: return "spent: too few sequence numbers left";
     case WB_NOT_FIRST: return "not first: a preceding operation waits";
     case WB_NONE: return "none: nothing of that number waits, or no loss to take";
     case WB_LINK_LOST: return "link lost: fewer sends than needed";
@@ -336,17 +338,22 @@ struct wb_value wb_rename(uint64_t n, uint64_t b, uint64_t m, const uint8_t *ser
                           uint64_t second_parent, const uint8_t *second_name, uint64_t second_name_length);
 
 /*
- * Writes bytes of a file, all in one block: wholly inside the length (an overwrite), or beginning at the length (an append).
+ * Writes bytes of a file, all in one block. Wholly inside the length they are an overwrite; beginning at the length they are an
+ * append. Beginning inside the length and ending beyond it they are both: an overwrite of the bytes up to the length, and then
+ * an append of the rest at the length. These two operations have consecutive sequence numbers and are both the program's; each
+ * takes a slot, and each that is lost is fetched as a loss of its own. When the link breaks, the overwrite may have been sent
+ * and the append be lost, never the reverse.
  *   server          read
  *   view            the bytes are put in; an append makes the file longer by them
- *   log             dependence on the file is noted; the operation is put into a slot
- *   program         the program that issues the operation
+ *   log             dependence on the file is noted and the operation put into a slot, for each operation in turn
+ *   program         the program that issues the operation or both
  *   object          the file
  *   offset          where the bytes go
  *   data            read: the bytes
- * Answers in value the sequence number. Refused with, in this order: WB_WRONG_BUFFER, WB_DAMAGED, WB_BAD_PROGRAM, WB_MARKED,
- * WB_BAD_NUMBER, WB_NO_OBJECT, WB_WRONG_KIND (a directory), WB_BAD_RANGE (0 bytes, across two blocks, across the end of the
- * file, beginning beyond the length, or ending beyond b blocks), WB_LOG_FULL, WB_SPENT.
+ * Answers in value the sequence number; of two operations that of the overwrite, and the append has the next. Refused with, in
+ * this order: WB_WRONG_BUFFER, WB_DAMAGED, WB_BAD_PROGRAM, WB_MARKED, WB_BAD_NUMBER, WB_NO_OBJECT, WB_WRONG_KIND (a directory),
+ * WB_BAD_RANGE (0 bytes, across two blocks, beginning beyond the length, or ending beyond b blocks), WB_LOG_FULL (for two
+ * operations: fewer than two slots are free), WB_SPENT (for two operations: fewer than two sequence numbers are left).
  */
 struct wb_value wb_write(uint64_t n, uint64_t b, uint64_t m, const uint8_t *server, uint64_t server_length,
                          uint8_t *view, uint64_t view_length, uint8_t *log, uint64_t log_length,

@@ -2,7 +2,7 @@
 #include <string.h>
 
 /* Two renames of each object: to a name that mostly is free, and onto one that another may have. Overwrites of object 1 with and
- * without a common byte. */
+ * without a common byte. Writes across the end; others go across it too, where a file is just short enough. */
 const struct letter alphabet[] = {
     {.kind = CREATE_FILE, .object = 1, .parent = 0, .name = "a"},
     {.kind = CREATE_FILE, .object = 2, .parent = 0, .name = "b"},
@@ -24,6 +24,8 @@ const struct letter alphabet[] = {
     {.kind = APPEND, .object = 1, .length = 2},
     {.kind = APPEND, .object = 2, .length = 2},
     {.kind = APPEND, .object = 3, .length = 2},
+    {.kind = APPEND, .object = 1, .length = 4, .before = 2},
+    {.kind = APPEND, .object = 2, .length = 3, .before = 1},
     {.kind = SET_LENGTH, .object = 1, .offset = 6},
     {.kind = REMOVE, .object = 1},
     {.kind = REMOVE, .object = 2},
@@ -74,11 +76,11 @@ static void put_second_name(const struct letter *letter, const struct volume *vi
         operation->displaced = there;
 }
 
-/* A write that begins at the length is an append. */
+/* A write that begins at the length is an append; none begins before the file. */
 static void put_data(const struct letter *letter, const struct volume *view, uint64_t sequence, struct operation *operation)
 {
-    uint64_t i, end = length_at(view, letter->object);
-    operation->offset = letter->kind == APPEND ? end : letter->offset;
+    uint64_t i, end = length_at(view, letter->object), tail = end > letter->before ? end - letter->before : 0;
+    operation->offset = letter->kind == APPEND ? tail : letter->offset;
     operation->kind = operation->offset == end ? APPEND : OVERWRITE;
     operation->data_length = letter->length;
     for (i = 0; i < letter->length; i++)

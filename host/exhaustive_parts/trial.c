@@ -103,6 +103,8 @@ uint32_t dependents_of(unsigned set, const uint32_t dependents[MOST])
     return programs;
 }
 
+int first_call(void) { return now.issued == 1 + (uint64_t)in(now.rests, 1); }
+
 void outcome(unsigned set, uint8_t bytes[VOLUME])
 {
     struct volume volume = volume_of(bytes);
@@ -119,8 +121,8 @@ static void print_trial(void)
 {
     uint64_t i;
     printf("\nstarting volume: %s\nprograms: %s\n", now.start->text, now.assignment->text);
-    for (i = 0; i <= now.issued && now.operations[i].sequence; i++) {
-        printf(i < now.issued ? "operation " : "then the call of operation ");
+    for (i = 0; i < now.issued + now.asked; i++) {
+        printf(i < now.issued ? "operation " : i == now.issued ? "then the call of operation " : "and of operation ");
         print_operation(stdout, &now.operations[i]);
         printf("\n");
     }

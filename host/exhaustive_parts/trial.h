@@ -15,7 +15,8 @@ struct buffers {
     uint8_t server[VOLUME], view[VOLUME], log[LOG];
 };
 
-/* The programs that issue the operations, numbered from 0 on, and when the asker asks for the status of object 1. */
+/* The programs that issue the operations, numbered from 0 on, and when the asker asks for the status of object 1. Both operations
+ * of a write across the end have the program of the first. */
 struct assignment {
     const char *text;
     uint64_t count, programs[MOST];
@@ -34,13 +35,15 @@ struct trial {
     const struct start *start;
     const struct assignment *assignment;
     uint64_t most;                         /* operations in a sequence */
-    uint64_t issued;                       /* operations issued; one more may be spelt already */
+    uint64_t issued;                       /* operations issued */
+    uint64_t asked;                        /* operations of a call that is being made, which come after them */
     uint64_t pushes, pushed[MOST + 1];     /* the sequence numbers pushed, in this order; the last one may be refused */
     int fsyncs;                            /* an fsync of the object with so many sends comes next */
     uint64_t object, sends;
     struct operation operations[MOST + 1];
+    unsigned rests;                        /* the appends of writes across the end; before each stands its overwrite */
     unsigned preceding[MOST];              /* of each operation the set that directly precedes it */
-    struct stage stages[MOST + 1];         /* after so many operations */
+    struct stage stages[MOST + 2];         /* after so many operations; the last is for a call that is refused */
 };
 extern struct trial now;
 
@@ -48,6 +51,8 @@ struct counts {
     uint64_t sequences[MOST + 1], refused, kinds[FORDER + 1];
     uint64_t apart, touching, loose, common;  /* pairs of operations: no shared operand; one, and not two overwrites; two
                                                * overwrites of a file without and with a common byte */
+    uint64_t across, one_slot;                /* writes across the end; those refused with one slot free */
+    uint64_t both, overwrite_alone, neither;  /* what was sent of one, over all cuts and fsyncs with too few sends */
     uint64_t sets, orders, whole, cuts, losses, fsyncs, links, calls;
 };
 extern struct counts counts;
@@ -65,6 +70,7 @@ unsigned all(void);                                        /* the operations iss
 void reckon_order(void);                                   /* fills preceding */
 int closed(unsigned set);                                  /* nothing outside the set precedes one in it */
 unsigned needed(uint64_t object);                          /* what fsync of the object sends */
+int first_call(void);                                      /* the operations issued are those of one call */
 void outcome(unsigned set, uint8_t bytes[VOLUME]);         /* the replay of the set in issue order; all of it has to apply */
 
 /* An accepted call of the program on the objects: it depends on the operations that lead to one of them. */

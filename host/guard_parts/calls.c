@@ -166,20 +166,38 @@ static uint64_t beside(struct call *call, uint64_t count)
     return ONE_OF(end, end - 1, begin > count ? begin - count : 0, begin + 1 > count ? begin + 1 - count : 0);
 }
 
-/* An overwrite or an append of a few bytes, now and then of many, or one that just does not fit. */
+/* So many bytes that the call writes; of more than 1,025 only these. */
+static void put_data(struct call *call, uint64_t count)
+{
+    uint64_t data[(1025 + 7) / 8], i;
+    for (i = 0; i < sizeof data / sizeof *data; i++)
+        data[i] = any();
+    text(call, OWN, data, count < 1025 ? count : 1025);
+}
+
+/* A few bytes before the end of the file and a few behind it, or all of the block, or one byte more than the block has. */
+static void choose_across(struct call *call, uint64_t length)
+{
+    const uint64_t begun = length % 1024, rest = 1024 - begun, few = 1 + below(6), more = 1 + below(6);
+    const uint64_t before = ONE_OF(few, few, few, few, begun, begun + 1), old = before < begun ? before : begun;
+    const uint64_t behind = ONE_OF(more, more, more, more, rest, rest + 1);
+    call->number[OFFSET] = length - (chance(1, 12) && before <= length ? before : old);
+    put_data(call, length - call->number[OFFSET] + behind);
+}
+
+/* An overwrite or an append of a few bytes, now and then of many, or one that just does not fit; often a write across the end. */
 static void choose_write(struct call *call)
 {
     static const uint64_t counts[] = {0, 100, 300, 512, 1020, 1023, 1024, 1025};
-    uint64_t data[(1025 + 7) / 8];
     const uint64_t length = length_of(call->number[OBJECT] = mostly(BIT(FILE_KIND))) % 65537;
     const uint64_t inside = below(length + 2), block = length / 1024 * 1024, few = 1 + below(6);
     const uint64_t offset = call->number[OFFSET] = ONE_OF(length, length, inside, inside, inside, 0, block);
     const uint64_t room = offset < length ? length - offset : 1024 - offset % 1024;
-    const uint64_t count = chance(1, 10) ? PICK(counts) : chance(1, 12) || few < room ? few : room;
-    uint64_t i;
-    for (i = 0; i < sizeof data / sizeof *data; i++)
-        data[i] = any();
-    text(call, OWN, data, count < 1025 ? count : 1025);
+    if (length > 0 && chance(1, 3)) {
+        choose_across(call, length);
+        return;
+    }
+    put_data(call, chance(1, 10) ? PICK(counts) : chance(1, 12) || few < room ? few : room);
     call->number[OFFSET] = beside(call, call->length[OWN]);
 }
 
@@ -284,11 +302,14 @@ static int useful(enum entry entry)
     }
 }
 
-/* By weight; but a full log is often made less full, losses are often taken, and what is of no use is seldom called. */
+/* By weight; but a full log is often made less full, losses are often taken, the last two sequence numbers often go to a write,
+ * and what is of no use is seldom called. */
 static enum entry choose_entry(void)
 {
-    const uint64_t used = slots_used(), lost = slots_lost();
+    const uint64_t used = slots_used(), lost = slots_lost(), next = next_sequence();
     enum entry entry = weighted();
+    if ((next == WIDE - 3 || next == WIDE - 2) && has_object(BIT(FILE_KIND)) && chance(1, 3))
+        return WRITE;
     if (lost > 0 && chance(1, used == present.m ? 3 : 12))
         return (enum entry)ONE_OF(TAKE, TAKE, TAKE, RENEW);
     if (used > lost && chance(1, used == present.m ? 3 : 12))

@@ -137,7 +137,7 @@ static void make_log(void)
         if (slot >= lost)
             put_number(at + 4, ONE_OF(BIT(at[14]), BIT(at[14]), 0, 5, BIT(31), UINT32_MAX), 4);
     }
-    put_number(log, ONE_OF(sequence + 1, sequence + 9, WIDE - 1), 4);
+    put_number(log, ONE_OF(sequence + 1, sequence + 1, sequence + 9, WIDE - 1, WIDE - 2, WIDE - 3), 4);
     put_number(log + 4, ONE_OF(0, 0, 0, 4, BIT(31)), 4);
     put(LOG, WB_LOG_BYTES(present.m), 0, log, WB_LOG_BYTES(present.m));
 }
@@ -206,7 +206,7 @@ static void damage(void)
 static void near_the_end(void)
 {
     uint8_t next[4];
-    put_number(next, ONE_OF(WIDE - 1, WIDE - 1, WIDE - 2, WIDE - 3, WIDE - 4), 4);
+    put_number(next, ONE_OF(WIDE - 1, WIDE - 2, WIDE - 2, WIDE - 3, WIDE - 3, WIDE - 4), 4);
     put(LOG, present_length(LOG), 0, next, sizeof next);
 }
 

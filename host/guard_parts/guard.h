@@ -1,5 +1,6 @@
 /* What guard and its parts share: guard.c makes the calls and compares, memory.c lends the buffers, state.c reads what
- * they hold, calls.c chooses sensible calls, wild.c makes arguments wild, disturb.c changes the buffers. */
+ * they hold, calls.c chooses sensible calls, wild.c makes arguments wild, disturb.c changes the buffers, across.c counts the
+ * answers to writes across the end of a file. */
 #ifndef GUARD_H
 #define GUARD_H
 
@@ -73,6 +74,7 @@ struct progress {
 };
 extern struct progress progress;
 void catch_signals(void);
+const char *commas(uint64_t number); /* the number with commas, in one of a few rooms by turns */
 
 /* ---- What the buffers hold now ---- */
 struct geometry {
@@ -93,6 +95,7 @@ uint64_t slots_used(void);
 uint64_t slots_lost(void);
 uint64_t sequence_of(uint64_t slot);
 uint64_t issuer_of(uint64_t slot);
+uint64_t next_sequence(void);
 uint64_t marks(void);
 int marked(uint64_t program);
 int has_object(uint32_t kinds);
@@ -106,6 +109,15 @@ uint64_t a_name(uint8_t *name);
 void lend_present(struct call *call, enum entry entry); /* a call with the three buffers as they are */
 void choose(struct call *call);
 void make_wild(struct call *call); /* one or more arguments of a chosen call */
+
+/* ---- Writes across the end of a file, which are two operations ---- */
+struct across {
+    int is;               /* the call is one, as far as offset, length and the file tell */
+    uint64_t free, left;  /* the slots that are free and the sequence numbers that are left before it */
+};
+struct across across_of(const struct call *call);
+void count_across(struct across across, uint64_t returned);
+unsigned say_across(void); /* prints how often each answer came, and gives how many never did */
 
 /* ---- Changing the buffers between calls ---- */
 void make_record(uint8_t *record, uint64_t sequence, uint64_t n, uint64_t longest);

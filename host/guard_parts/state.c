@@ -87,6 +87,11 @@ uint64_t issuer_of(uint64_t slot)
     return slot_at(slot)[14];
 }
 
+uint64_t next_sequence(void)
+{
+    return number_at(slot_at(0) - LOG_HEAD, 4);
+}
+
 uint64_t marks(void)
 {
     return number_at(slot_at(0) - 4, 4);

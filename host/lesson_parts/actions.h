@@ -6,7 +6,8 @@
 
 typedef uint64_t action(struct host *host, struct pupil *pupil);
 
-/* Editors (editing.c): they append, overwrite, set the length, and save by a new file that takes the place of the old one. */
+/* Editors (editing.c): they append, at times across the end of the file, overwrite, set the length, and save by a new file that
+ * takes the place of the old one. */
 action create_file, append, overwrite, set_length, begin_save, go_on_saving;
 
 /* Whether the pupil is saving a file. It gives up where another one of its group has moved or removed the old file. */

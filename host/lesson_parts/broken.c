@@ -71,6 +71,24 @@ static void print_programs(const struct host *host, const char *before, uint64_t
     printf("%s\n", printed ? "" : " nobody");
 }
 
+/* What became of the writes across the end whose append waited; nothing is printed where there was none. */
+static void print_across(const struct host *host, const struct burst *burst)
+{
+    uint64_t i, count = 0, whole = 0, halves = 0;
+    for (i = 0; i < burst->count; i++) {
+        const struct issued *issued = issued_as(host, burst->sequences[i]);
+        if (!issued->rest)
+            continue;
+        count++;
+        whole += issued->state == SENT;
+        halves += issued->state != SENT && issued_as(host, burst->sequences[i] - 1)->state == SENT;
+    }
+    if (count > 0)
+        printf("  %lu write%s across the end of a file: %lu sent whole, %lu with the overwrite alone, %lu lost whole.\n",
+               (unsigned long)count, plural(count), (unsigned long)whole, (unsigned long)halves,
+               (unsigned long)(count - whole - halves));
+}
+
 static void print_lost(const struct host *host, const struct burst *burst, uint64_t class_set)
 {
     uint64_t i, losers = 0;
@@ -78,6 +96,7 @@ static void print_lost(const struct host *host, const struct burst *burst, uint6
         losers |= UINT64_C(1) << host->lost[i]->program;
     printf("  %lu operation%s waited: %lu still sent, %lu lost.\n", (unsigned long)burst->count, plural(burst->count),
            (unsigned long)(burst->count - host->lost_count), (unsigned long)host->lost_count);
+    print_across(host, burst);
     print_programs(host, "  lost, by program:", losers, 1);
     print_programs(host, "  marked:          ", host->marked, 0);
     print_programs(host, "  not marked:      ", class_set & ~host->marked, 0);
@@ -92,9 +111,11 @@ static void ask_marks(struct host *host)
         do_stat(host, program, 0);
 }
 
+/* Of an append that is the rest of a write it is said where the overwrite was sent: only the append is to be done again. */
 static void print_loss(const struct host *host, const struct operation *loss)
 {
-    const struct name *called = &issued_as(host, loss->sequence)->called;
+    const struct issued *issued = issued_as(host, loss->sequence);
+    const struct name *called = &issued->called;
     printf("    ");
     print_operation(stdout, loss);
     if (loss->kind > RENAME && loss->kind != FORDER) {
@@ -102,6 +123,8 @@ static void print_loss(const struct host *host, const struct operation *loss)
         print_name(stdout, called->bytes, called->length);
         printf("\")");
     }
+    if (issued->rest && issued_as(host, loss->sequence - 1)->state == SENT)
+        printf("; the overwrite before it, %lu, was sent", (unsigned long)(loss->sequence - 1));
     printf("\n");
 }
 

@@ -49,7 +49,7 @@ static uint64_t expected(const struct host *host, const struct operation *operat
         return WB_NO_OBJECT;
     if (!applies(&host->own, operation))
         return refusal(&host->own, operation);
-    return host->waiting_count + host->lost_count == host->m ? WB_LOG_FULL : WB_ACCEPTED;
+    return free_slots(host) == 0 ? WB_LOG_FULL : WB_ACCEPTED;
 }
 
 static void check_change(const struct operation *operation, struct wb_value answer, uint64_t wanted)
@@ -64,20 +64,23 @@ static void check_change(const struct operation *operation, struct wb_value answ
 }
 
 /* What an accepted operation brings: its program depends on what reaches its operands; it waits; the host's own view has it. */
-static uint64_t finish(struct host *host, const struct operation *operation, struct wb_value answer, uint64_t wanted)
+static void now_waits(struct host *host, const struct operation *operation)
 {
     uint8_t objects[WB_MOST_OBJECTS] = {0};
-    uint64_t found[WB_LIST_OBJECTS], count, i;
-    check_change(operation, answer, wanted);
-    if (wanted != WB_ACCEPTED)
-        return wanted;
-    count = operands(operation, found);
+    uint64_t found[WB_LIST_OBJECTS], count = operands(operation, found), i;
     for (i = 0; i < count; i++)
         objects[found[i]] = 1;
     note_dependence(host, operation->program, objects);
     add_waiting(host, operation);
     if (!replay(&host->own, operation))
         fault("operation %lu was accepted and does not apply to the host's own view", (unsigned long)operation->sequence);
+}
+
+static uint64_t finish(struct host *host, const struct operation *operation, struct wb_value answer, uint64_t wanted)
+{
+    check_change(operation, answer, wanted);
+    if (wanted == WB_ACCEPTED)
+        now_waits(host, operation);
     return wanted;
 }
 
@@ -128,18 +131,27 @@ uint64_t do_rename(struct host *host, uint64_t program, uint64_t parent, struct 
     return finish(host, &operation, answer, wanted);
 }
 
+/* Across the end it is two operations, which need two slots; the number of the first is answered. */
 uint64_t do_write(struct host *host, uint64_t program, uint64_t object, uint64_t offset, const uint8_t *data, uint64_t length)
 {
-    struct operation operation = fresh(host, program, offset == length_at(&host->own, object) ? APPEND : OVERWRITE);
+    struct operation asked = fresh(host, program, offset == length_at(&host->own, object) ? APPEND : OVERWRITE), parts[2];
     struct wb_value answer;
-    uint64_t wanted;
-    operation.object = object;
-    operation.offset = offset;
-    operation.data_length = length;
-    memcpy(operation.data, data, length);
-    wanted = expected(host, &operation, 0);
+    uint64_t wanted, count, i;
+    asked.object = object;
+    asked.offset = offset;
+    asked.data_length = length;
+    memcpy(asked.data, data, length);
+    count = divide(&host->own, &asked, parts);
+    wanted = expected(host, &parts[0], 0);
+    if (wanted == WB_ACCEPTED && free_slots(host) < count)
+        wanted = WB_LOG_FULL;
     CALL(host, ENTRY_WRITE, answer, wb_write(LENT(host), program, object, offset, data, length));
-    return finish(host, &operation, answer, wanted);
+    check_change(&asked, answer, wanted);
+    for (i = 0; i < count && wanted == WB_ACCEPTED; i++) {
+        now_waits(host, &parts[i]);
+        issued_as(host, parts[i].sequence)->rest = i > 0;
+    }
+    return wanted;
 }
 
 uint64_t do_setlen(struct host *host, uint64_t program, uint64_t object, uint64_t length)

@@ -49,13 +49,22 @@ static void same_volume(const char *what, const struct volume *got, const struct
     fault("%s differs from the host's replay", what);
 }
 
+static void replay_sent(struct host *host, uint64_t sequence)
+{
+    const struct issued *issued = issued_as(host, sequence);
+    if (issued->rest && issued_as(host, sequence - 1)->state == FETCHED)
+        fault("operation %lu, an append, was sent, and the overwrite of the same write was lost", (unsigned long)sequence);
+    if (!replay(&host->replayed, &issued->operation))
+        fault("operation %lu, which was sent, does not apply in the host's replay", (unsigned long)sequence);
+}
+
 void compare_server(struct host *host)
 {
-    uint64_t i;
+    uint64_t sequence;
     memcpy(host->replayed.bytes, host->mounted.bytes, host->volume_length);
-    for (i = 0; i < host->issued_count; i++)
-        if (host->issued[i]->state != FETCHED && !replay(&host->replayed, &host->issued[i]->operation))
-            fault("operation %lu, which was sent, does not apply in the host's replay", (unsigned long)(i + 1));
+    for (sequence = 1; sequence <= host->issued_count; sequence++)
+        if (issued_as(host, sequence)->state != FETCHED)
+            replay_sent(host, sequence);
     same_volume("the server volume", &host->server, &host->replayed);
 }
 

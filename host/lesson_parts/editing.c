@@ -15,15 +15,33 @@ uint64_t create_file(struct host *host, struct pupil *pupil)
     return returned;
 }
 
+/* Prints a line on the two operations issued last, which one write across the end of a file brought. */
+static void say_across(const struct host *host)
+{
+    const struct issued *overwrite = issued_as(host, host->issued_count - 1), *rest = issued_as(host, host->issued_count);
+    printf("%s saves %lu bytes across the end of \"", who(rest->operation.program),
+           (unsigned long)(overwrite->operation.data_length + rest->operation.data_length));
+    print_name(stdout, rest->called.bytes, rest->called.length);
+    printf("\": operation %lu overwrites %lu, operation %lu appends %lu.\n", (unsigned long)overwrite->operation.sequence,
+           (unsigned long)overwrite->operation.data_length, (unsigned long)rest->operation.sequence,
+           (unsigned long)rest->operation.data_length);
+}
+
 /* Writes letters from the offset on, at most so many and all in one block. */
 static uint64_t write_letters(struct host *host, struct pupil *pupil, uint64_t object, uint64_t offset, uint64_t most)
 {
     uint8_t data[WB_BLOCK_BYTES];
-    uint64_t i, length, in_block = WB_BLOCK_BYTES - offset % WB_BLOCK_BYTES;
+    uint64_t i, length, returned, issued = host->issued_count, in_block = WB_BLOCK_BYTES - offset % WB_BLOCK_BYTES;
     length = 1 + below(&host->chance, most < in_block ? most : in_block);
     for (i = 0; i < length; i++)
         data[i] = (uint8_t)('a' + below(&host->chance, 26));
-    return do_write(host, pupil->program, object, offset, data, length);
+    returned = do_write(host, pupil->program, object, offset, data, length);
+    if (host->issued_count == issued + 2 && first_time(host, ACROSS_END))
+        say_across(host);
+    if (returned == WB_LOG_FULL && free_slots(host) == 1 && first_time(host, ONE_SLOT))
+        printf("%s saves across the end of a file, which takes two slots, and one is free: %s.\n", who(pupil->program),
+               wb_text(returned));
+    return returned;
 }
 
 uint64_t set_length(struct host *host, struct pupil *pupil)
@@ -35,15 +53,27 @@ uint64_t set_length(struct host *host, struct pupil *pupil)
                      below(&host->chance, one_in(&host->chance, 4) ? host->b * WB_BLOCK_BYTES + 1 : 4096));
 }
 
+/* Where a write at the end of a file begins: at most so many bytes before it, in the same block. */
+static uint64_t tail(struct host *host, uint64_t length, uint64_t most)
+{
+    uint64_t in_block = length % WB_BLOCK_BYTES, before = most < in_block ? most : in_block;
+    return before == 0 ? length : length - 1 - below(&host->chance, before);
+}
+
+/* Editors have several habits: a save is at most so long, and it may begin before the end of the file and go across it. */
 uint64_t append(struct host *host, struct pupil *pupil)
 {
-    uint64_t object = pick(host, pupil, work_file), length;
+    static const struct {
+        uint64_t most, before;
+    } habits[] = {{WB_BLOCK_BYTES, 0}, {100, 0}, {10, 5}, {WB_BLOCK_BYTES, 0}, {100, 60}, {100, 0}};
+    uint64_t object = pick(host, pupil, work_file), length, habit;
     if (object == 0)
         return create_file(host, pupil);
     length = length_at(&host->own, object);
     if (length > LONG_FILE)
         return do_setlen(host, pupil->program, object, below(&host->chance, WB_BLOCK_BYTES));
-    return write_letters(host, pupil, object, length, one_in(&host->chance, 3) ? WB_BLOCK_BYTES : 100);
+    habit = below(&host->chance, sizeof habits / sizeof habits[0]);
+    return write_letters(host, pupil, object, tail(host, length, habits[habit].before), habits[habit].most);
 }
 
 uint64_t overwrite(struct host *host, struct pupil *pupil)

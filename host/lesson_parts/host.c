@@ -142,6 +142,7 @@ void add_waiting(struct host *host, const struct operation *operation)
     }
     issued->operation = *operation;
     issued->state = WAITING;
+    issued->rest = 0;
     issued->dependents = UINT64_C(1) << operation->program;
     issued->called = name_of(host, operation->kind == FORDER ? operation->list[0] : operation->object);
     host->issued[host->issued_count++] = issued;
@@ -149,6 +150,8 @@ void add_waiting(struct host *host, const struct operation *operation)
     if (host->waiting_count > host->most_waiting)
         host->most_waiting = host->waiting_count;
 }
+
+uint64_t free_slots(const struct host *host) { return host->m - host->waiting_count - host->lost_count; }
 
 void now_sent(struct host *host, const uint8_t *chosen)
 {

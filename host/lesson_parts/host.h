@@ -18,11 +18,12 @@ struct name {
 enum state { WAITING, SENT, LOST, FETCHED };
 
 /* What is said when it happens for the first time. */
-enum event { FULL_NAME, LONG_NAME, LOG_FULL, NOT_FIRST, EVENTS };
+enum event { FULL_NAME, LONG_NAME, LOG_FULL, NOT_FIRST, ACROSS_END, ONE_SLOT, EVENTS };
 
 struct issued {
     struct operation operation;
     enum state state;
+    int rest;            /* it is the append of a write across the end; the overwrite has the number before */
     uint64_t dependents; /* bit p for program p, by the host's own reckoning */
     struct name called;  /* what its object was called then; of a forder the first of its list */
 };
@@ -67,6 +68,9 @@ struct issued *issued_as(const struct host *host, uint64_t sequence);
 
 /* Puts an accepted operation behind the waiting ones, with its program as the only dependent. */
 void add_waiting(struct host *host, const struct operation *operation);
+
+/* The slots that neither a waiting operation nor a loss uses. */
+uint64_t free_slots(const struct host *host);
 
 /* The waiting ones that are chosen (1 where chosen) are sent and wait no longer. */
 void now_sent(struct host *host, const uint8_t *chosen);

@@ -67,6 +67,20 @@ static void print_kinds(const struct host *host)
     printf("; renames that displaced an object: %lu\n", (unsigned long)displacing);
 }
 
+/* How many writes went across the end of a file, and of how many a broken link kept the overwrite and lost the append. */
+static void print_across(const struct host *host)
+{
+    uint64_t sequence, count = 0, halves = 0;
+    for (sequence = 2; sequence <= host->issued_count; sequence++) {
+        if (!issued_as(host, sequence)->rest)
+            continue;
+        count++;
+        halves += issued_as(host, sequence - 1)->state == SENT && issued_as(host, sequence)->state == FETCHED;
+    }
+    printf("  writes across the end of a file, an overwrite and an append each: %lu; sent with the overwrite alone: %lu\n",
+           (unsigned long)count, (unsigned long)halves);
+}
+
 static uint64_t questions(const struct measure *measure)
 {
     return measure->entries[ENTRY_LOOKUP].calls + measure->entries[ENTRY_LIST].calls + measure->entries[ENTRY_STAT].calls
@@ -80,6 +94,7 @@ void print_summary(const struct host *host, const struct class *class)
     printf("  issued: %lu by a class of %d; at most %lu waited at a time\n", (unsigned long)host->issued_count, (int)class->count,
            (unsigned long)host->most_waiting);
     print_kinds(host);
+    print_across(host);
     printf("  sent: %lu, of which %lu by push and %lu by fsync; %lu went before one that was issued earlier\n",
            (unsigned long)host->sent_count, (unsigned long)host->pushed, (unsigned long)(host->sent_count - host->pushed),
            (unsigned long)host->overtaking);

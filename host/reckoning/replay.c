@@ -154,3 +154,26 @@ int replay(struct volume *volume, const struct operation *operation)
         apply(volume, operation);
     return does;
 }
+
+static int across_end(const struct volume *view, const struct operation *asked)
+{
+    return asked->kind == OVERWRITE && asked->offset < length_at(view, asked->object)
+        && length_at(view, asked->object) < asked->offset + asked->data_length;
+}
+
+uint64_t divide(const struct volume *view, const struct operation *asked, struct operation parts[2])
+{
+    uint64_t old;
+    parts[0] = *asked;
+    if (!across_end(view, asked))
+        return 1;
+    old = length_at(view, asked->object) - asked->offset;
+    parts[0].data_length = old;
+    parts[1] = *asked;
+    parts[1].sequence++;
+    parts[1].kind = APPEND;
+    parts[1].offset += old;
+    parts[1].data_length -= old;
+    memcpy(parts[1].data, asked->data + old, parts[1].data_length);
+    return 2;
+}

@@ -33,4 +33,8 @@ int applies(const struct volume *volume, const struct operation *operation);
 /* Applies the operation if it applies there; tells whether it did. A replay does so with a set of operations in issue order. */
 int replay(struct volume *volume, const struct operation *operation);
 
+/* The operations of a call that asks for this one in a view, in issue order; tells how many. It is the one asked for, but a write
+ * across the end of a file is an overwrite of the bytes up to the length and an append of the rest. */
+uint64_t divide(const struct volume *view, const struct operation *asked, struct operation parts[2]);
+
 #endif
