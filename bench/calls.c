@@ -104,13 +104,14 @@ static void make_volume(void)
     expect(mount(), WB_ACCEPTED, "mount");
 }
 
+static uint64_t chance = 1; /* the state of the random numbers */
+
 static uint64_t random_below(uint64_t bound)
 {
-    static uint64_t state = 1;
-    state ^= state << 13;
-    state ^= state >> 7;
-    state ^= state << 17;
-    return (state >> 11) % bound;
+    chance ^= chance << 13;
+    chance ^= chance >> 7;
+    chance ^= chance << 17;
+    return (chance >> 11) % bound;
 }
 
 /* One attempt at an operation outside directory 15; it may be refused. */
@@ -277,9 +278,11 @@ static const struct timed sends[] = {
 static const struct timed losses[] = {{"take", take, 1, 0}, {"renew", renew, 1, 0}};
 static const struct timed beginnings[] = {{"format", format, 1, 1}, {"mount", mount, 1, 0}};
 
-/* All calls with so many waiting, or lost; a change is the last of them, a write across the end the last two. */
+/* All calls with so many waiting, or lost; a change is the last of them, a write across the end the last two. What waits then draws no
+ * random numbers from what is measured after it. */
 static void measure_with(uint64_t waiting, const char *state, double goal)
 {
+    uint64_t kept_chance;
     make_waiting(waiting);
     if (waiting == 0)
         measure_all(beginnings, COUNT(beginnings), state, goal);
@@ -287,9 +290,11 @@ static void measure_with(uint64_t waiting, const char *state, double goal)
     if (waiting == M)
         make_waiting(M - 1);
     measure_all(changes, COUNT(changes), state, goal);
+    kept_chance = chance;
     if (waiting == M)
         make_waiting(M - 2);
     measure_all(twofold, COUNT(twofold), state, goal);
+    chance = kept_chance;
     make_waiting(waiting ? waiting : 1);
     measure_all(sends, COUNT(sends), state, goal);
     make_lost(waiting);

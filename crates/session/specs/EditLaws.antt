@@ -20,7 +20,7 @@ use Rattle.entry.specs.Entry.{Entry, free, file, directory, isUsed, isFile, isD
 use Rattle.entry.specs.WriteLaws.{length-patch}
 use Rattle.search.specs.Volume.{Volume, entryAt, search, hasChildren, isChild, isNamed}
 use Rattle.search.specs.FormLaws.{well-formed-inv, lowest-some}
-use Rattle.search.specs.SearchLaws.{entry-set-same, used-below}
+use Rattle.search.specs.SearchLaws.{entry-set-same}
 use Rattle.applies.specs.Apply.{applies, apply, isAbsent, isAt, hasRoom, yields}
 use Rattle.log.specs.Order.{any}
 use Rattle.session.specs.Call.{Geometry, Call, createFile, makeDirectory, remove, rename, write, setLength, forder, inRange}
@@ -60,17 +60,6 @@ inside v o h = ltb-true o (length v) (not-false _ h)
 
 used : (v : Volume) (o : ℕ) → isFree v o ≡ false → isUsed (entryAt v o) ≡ true
 used v o h = not-false _ h
-
--- a file is used, and with other contents it is a file of these
-file-used : (e : Entry) → isFile e ≡ true → isUsed e ≡ true
-file-used free h = let z : _≡_ {A = ℕ} 0 1 = cc in absurd (omega arith)
-file-used (file n p c) h = refl
-file-used (directory n p) h = let z : _≡_ {A = ℕ} 0 1 = cc in absurd (omega arith)
-
-refilled-file : (e : Entry) (c : List ℕ) → isFile e ≡ true → (isFile (refilled e c) ≡ true) × (contentsOf (refilled e c) ≡ c)
-refilled-file free c h = let z : _≡_ {A = ℕ} 0 1 = cc in absurd (omega arith)
-refilled-file (file n p b) c h = (refl, refl)
-refilled-file (directory n p) c h = let z : _≡_ {A = ℕ} 0 1 = cc in absurd (omega arith)
 
 -- a search that is not absent found something
 found-one : (o : Option ℕ) → isAbsent o ≡ false → (i : ℕ) × (o ≡ some i)
@@ -216,14 +205,19 @@ module _ (g : Geometry) (x : Model) (s : Sound g x) where
       (rw (isf, eq-eqb len (length (contentsOf (entryAt v o))) at), append-recordable (g .objects) (g .blocks) few (blocks-few g (s .range)) o len (a ∷ u) (r (omega arith)), tt)
 
   -- an overwrite leaves a file of the same length
-  overwritten-file : (v : Volume) (o f : ℕ) (t : List ℕ) → isFile (entryAt v o) ≡ true → f + length t ≤ length (contentsOf (entryAt v o))
+  overwritten-file : (v : Volume) (o f : ℕ) (t : List ℕ) → o < length v → isFile (entryAt v o) ≡ true → f + length t ≤ length (contentsOf (entryAt v o))
       → (isFile (entryAt (apply v (Operation.overwrite o f t)) o) ≡ true) × (length (contentsOf (entryAt v o)) ≡ length (contentsOf (entryAt (apply v (Operation.overwrite o f t)) o)))
   unfolding apply
-  overwritten-file v o f t isf h =
-      let c = contentsOf (entryAt v o) in
-      let is : entryAt (set v o (refilled (entryAt v o) (patch c f t))) o ≡ refilled (entryAt v o) (patch c f t) = entry-set-same v o _ (used-below v o (file-used (entryAt v o) isf)) in
-      let y = refilled-file (entryAt v o) (patch c f t) isf in
-      (ap isFile is ∙ y .0, sym (ap (λ (e : Entry). length (contentsOf e)) is ∙ ap length (y .1) ∙ length-patch c f t h))
+  overwritten-file v o f t there isf h = let y = go (entryAt v o) isf h in (ap isFile is ∙ y .0, y .1 ∙ ap (λ (e : Entry). length (contentsOf e)) (sym is))
+    where
+      is : entryAt (set v o (refilled (entryAt v o) (patch (contentsOf (entryAt v o)) f t))) o ≡ refilled (entryAt v o) (patch (contentsOf (entryAt v o)) f t)
+      is = entry-set-same v o (refilled (entryAt v o) (patch (contentsOf (entryAt v o)) f t)) there
+
+      go : (e : Entry) → isFile e ≡ true → f + length t ≤ length (contentsOf e)
+          → (isFile (refilled e (patch (contentsOf e) f t)) ≡ true) × (length (contentsOf e) ≡ length (contentsOf (refilled e (patch (contentsOf e) f t))))
+      go free k l = (k, refl)
+      go (file n p c) k l = (refl, sym (length-patch c f t l))
+      go (directory n p) k l = (k, refl)
 
   -- an accepted write: an overwrite of the bytes up to the length, and then an append of the rest
   writes-fit : (o f : ℕ) (d : List ℕ) → 1 ≤ o → o < g .objects → isFile (entryAt (x .view) o) ≡ true
@@ -249,7 +243,8 @@ module _ (g : Geometry) (x : Model) (s : Sound g x) where
       go (a ∷ t) e =
           let inner : f + length (a ∷ t) ≤ len = omega (arith, w .2) in
           let r : RangeFields (g .objects) (g .blocks) few o f (a ∷ t) = record { low = low; object = below; some = omega arith; oneBlock = omega (arith, w .1); within = omega (arith, w .3) } in
-          let y = overwritten-file (x .view) o f (a ∷ t) isf inner in (
+          let there : o < length (x .view) = subst (λ (k : ℕ). o < k) (sym sized) below in
+          let y = overwritten-file (x .view) o f (a ∷ t) there isf inner in (
             rw (isf, le-leb (f + length (a ∷ t)) len inner),
             overwrite-recordable (g .objects) (g .blocks) few (blocks-few g (s .range)) o f (a ∷ t) r,
             append-fit (apply (x .view) (Operation.overwrite o f (a ∷ t))) o len u (y .0) (y .1) rest,

@@ -9,7 +9,7 @@ use lib.Seq.{take-all}
 use Rattle.records.specs.Operation.{Operation}
 use Rattle.session.specs.Issue.{onBytes, writesAt}
 
--- Some bytes are written by one operation, no bytes by none.
+-- Some bytes are written by one operation.
 pub some-bytes : (s : List ℕ) (f : List ℕ → Operation) → 1 ≤ length s → onBytes s f ≡ f s ∷ []
 some-bytes [] f h = absurd (omega arith)
 some-bytes (a ∷ s) f h = refl
