@@ -3,12 +3,12 @@ use Prim.Native.Nat.{ℕ, _+_, _*_, _-_, _%_, _≤_, _<_}
 use native.Mathlib.Omega.{arith}
 use mathlib.Core.Path.{_≡_, refl, sym, ap, _∙_}
 use mathlib.Core.List.{List, [], _∷_}
-use mathlib.Core.Bool.{Bool, true, false, not, _||_}
+use mathlib.Core.Bool.{Bool, true, false, _||_}
 use lib.ListN.{length, List·getD-eq-default}
 use lib.Dec.{ltb, eqb}
 use borrow.Author.Tests.{ltb-true, ltb-false, lt-ltb, le-ltb, eq-eqb, ne-eqb}
 use Rattle.returned.specs.Returned
-use Rattle.entry.specs.Entry.{Entry, free, isUsed, isFile, contentsOf}
+use Rattle.entry.specs.Entry.{Entry, free, contentsOf}
 use Rattle.search.specs.Volume.{Volume, entryAt}
 use Rattle.session.specs.Refusal.{Row, row}
 use Rattle.session.specs.Edit.{badRange, fileRows}
@@ -23,17 +23,6 @@ pub or-left : (a b : Bool) → a ≡ true → a || b ≡ true
 or-left a b e = rw e
 
 module _ (v : Volume) (o : ℕ) where
-  -- An object that is not refused is below n.
-  pub file-below : (l : List Row) → 0 ≡ firstNumber (fileRows v o l) → o < length v
-  unfolding firstNumber
-  file-below l = go (ltb o (length v)) refl
-    where
-      go : (t : Bool) → ltb o (length v) ≡ t
-          → 0 ≡ firstNumber (row Returned.badNumber (not t) ∷ row Returned.noObject (not (isUsed (entryAt v o))) ∷ row Returned.wrongKind (not (isFile (entryAt v o))) ∷ l)
-          → o < length v
-      go true e h = ltb-true o (length v) e
-      go false e h = absurd (omega arith)
-
   -- The object's own refusal is that of a table that asks more behind it, and where there is none a bad range refuses.
   pub file-refused : (l : List Row) (k : ℕ) → k ≡ firstNumber (fileRows v o []) → (k ≡ 0 → ⊥) → k ≡ firstNumber (fileRows v o l)
   file-refused l k e z = sym (first-left k (fileRows v o []) l (sym e) z)

@@ -1,4 +1,4 @@
-// "Write lies in one block": of the bytes of a file, or beginning at its end, or across the end.
+// "Write lies in one block": inside the length of the file, beginning at it, or across the end (document 02, K1).
 ghost use mathlib.Core.Path.{_≡_};
 ghost use Prim.Native.Nat.{_≤_};
 ghost use mathlib.Core.List.{[], _∷_};
