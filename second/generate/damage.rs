@@ -48,7 +48,7 @@ fn one_damage(builder: &mut Builder) {
 }
 
 /// A call that is refused with 2 if the form is broken; says whether it was.
-fn any_call(builder: &mut Builder) -> bool {
+pub fn any_call(builder: &mut Builder) -> bool {
     let program = builder.random.pick(&[0, 1, 2, 31]);
     let line = match builder.random.below(17) {
         0 => "mount".to_string(),

@@ -6,6 +6,7 @@ mod bad;
 mod builder;
 mod damage;
 mod ends;
+mod letters;
 mod limits;
 mod logs;
 mod pairs;
@@ -20,11 +21,12 @@ use std::io::Write;
 type Maker = fn(&mut Builder);
 
 /// The kinds of script, and what makes each.
-const KINDS: [(&str, Maker); 11] = [
+const KINDS: [(&str, Maker); 12] = [
     ("run", runs::run),
     ("fill", runs::fill),
     ("files", runs::files),
     ("ends", ends::ends),
+    ("letters", letters::letters),
     ("limits", limits::limits),
     ("damage", damage::damage),
     ("sizes", damage::sizes),

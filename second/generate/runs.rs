@@ -238,7 +238,7 @@ fn rename(builder: &mut Builder, program: u64) -> String {
 }
 
 /// The place of another object of the same kind, for a directory in the same parent.
-fn like(builder: &mut Builder, parent: u64, name: &[u8]) -> (u64, Vec<u8>) {
+pub fn like(builder: &mut Builder, parent: u64, name: &[u8]) -> (u64, Vec<u8>) {
     let Some(object) = (parent < builder.n()).then(|| builder.view().seek(parent as usize, name)).flatten() else {
         return place(builder);
     };

@@ -1,15 +1,17 @@
 //! Measures what a corpus of scripts reaches: every call accepted and refused with each number that it can give,
-//! every kind of pair in the precedence rule, and writes across the end of a file. Give it script files; it prints a
-//! table, then what is missing, and ends with 1 if anything is.
+//! every kind of pair in the precedence rule, writes across the end of a file, and names in another spelling. Give it
+//! script files; it prints a table, then what is missing, and ends with 1 if anything is.
 #![forbid(unsafe_code)]
 
 mod across;
 mod calls;
+mod letters;
 mod pairs;
 mod sends;
 
 use across::Across;
 use calls::Calls;
+use letters::Letters;
 use pairs::Pairs;
 use second::player::{Outcome, Player};
 use second::script::{lines, parse, Line};
@@ -23,6 +25,7 @@ struct Reach {
     pairs: Pairs,
     sends: Sends,
     across: Across,
+    letters: Letters,
     lines: usize,
     bad_lines: usize,
 }
@@ -63,12 +66,16 @@ impl Reach {
         let Some(code) = code.parse().ok().filter(|_| calls::possible(name).is_some()) else { return };
         let damaged = before.lend().look().damaged();
         self.calls.note(name, code, damaged);
+        self.letters.note(name, arguments, code, &before);
         let old = sends::log_of(&mut before);
         let new = sends::log_of(after);
         if let (Some(old), Some(new)) = (old, new) {
             self.pairs.note(name, arguments, code, &old, &new);
             self.sends.note(name, arguments, code, damaged, &old);
             self.across.note(name, arguments, code, &mut before, (&old, &new));
+            if !damaged {
+                self.letters.note_sends(name, arguments, code, &before, (&old, &new));
+            }
         }
         if name == "record" {
             self.sends.note_record(arguments, code);
@@ -80,6 +87,7 @@ impl Reach {
         missing.extend(self.pairs.missing());
         missing.extend(self.sends.missing());
         missing.extend(self.across.missing());
+        missing.extend(self.letters.missing());
         if self.bad_lines == 0 {
             missing.push("a bad line".to_string());
         }
@@ -97,6 +105,7 @@ fn main() -> std::io::Result<()> {
     let mut text =
         format!("{} scripts, {} lines, {} ending in a bad line\n", files.len(), reach.lines, reach.bad_lines);
     text += &(reach.calls.table() + &reach.pairs.table() + &reach.sends.table() + &reach.across.table());
+    text += &reach.letters.table();
     missing.iter().for_each(|what| text += &format!("missing: {what}\n"));
     if missing.is_empty() {
         text += "nothing is missing\n";

@@ -40,7 +40,7 @@ fn make(lent: &mut Lent, kind: Kind, program: u64, parent: u64, name: &[u8], obj
     Ok(lent.issue(geometry, log, program, record))
 }
 
-/// Removes a file or an empty directory.
+/// Removes a file or an empty directory; it is logged with the name as typed.
 pub fn remove(lent: &mut Lent, program: u64, parent: u64, name: &[u8]) -> Result<u64, Refusal> {
     let now = lent.look();
     let place = parent as usize;
@@ -111,7 +111,8 @@ impl Sides<'_> {
 }
 
 /// Gives an object a new name, in another parent too if it is a file, and displaces what has that name.
-/// Renaming to the same name is logged with map 55 and changes nothing.
+/// The name is stored as typed. In the same parent, another spelling of the object's own name displaces nothing
+/// (map 55) and changes the stored spelling; the stored spelling itself changes nothing, and is logged too.
 pub fn rename(
     lent: &mut Lent,
     program: u64,

@@ -2,7 +2,7 @@
 
 use crate::bytes::all_zero;
 use crate::geometry::ENTRY_HEAD;
-use crate::names::{valid_name, LONGEST_NAME};
+use crate::names::{same_name, valid_name, LONGEST_NAME};
 use crate::volume::{Volume, DIRECTORY, FILE, FREE, LENGTH_AT, NAME_AT, NAME_LENGTH_AT};
 use std::ops::Deref;
 
@@ -62,12 +62,12 @@ fn leads_to_root<B: Deref<Target = [u8]>>(volume: &Volume<B>, object: usize) -> 
     place == 0
 }
 
-/// No two used entries other than the root share parent and name.
+/// No two used entries other than the root share parent and name; two spellings of one name are the same name.
 fn names_differ<B: Deref<Target = [u8]>>(volume: &Volume<B>) -> bool {
     let used: Vec<usize> = (1..volume.geometry.n).filter(|&object| !volume.is_free(object)).collect();
     used.iter().enumerate().all(|(at, &one)| {
-        used[at + 1..]
-            .iter()
-            .all(|&other| volume.parent(one) != volume.parent(other) || volume.name(one) != volume.name(other))
+        used[at + 1..].iter().all(|&other| {
+            volume.parent(one) != volume.parent(other) || !same_name(volume.name(one), volume.name(other))
+        })
     })
 }

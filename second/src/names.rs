@@ -1,4 +1,4 @@
-//! Names and paths (document 01, "Names and paths").
+//! Names and paths (document 01, "Names and paths"), and when two names are the same (document 02, K2).
 
 /// The longest name, and the longest path.
 pub const LONGEST_NAME: usize = 60;
@@ -26,6 +26,13 @@ pub fn long_name(name: &[u8]) -> bool {
 
 pub fn valid_name(name: &[u8]) -> bool {
     !bad_name(name) && !long_name(name)
+}
+
+/// Whether two names are the same: equal once A to Z are replaced by a to z (document 02, K2). No other byte changes,
+/// and names are stored and logged as they are typed. Nothing else compares names.
+pub fn same_name(one: &[u8], other: &[u8]) -> bool {
+    let small = |&byte: &u8| if (b'A'..=b'Z').contains(&byte) { byte - b'A' + b'a' } else { byte };
+    one.iter().map(small).eq(other.iter().map(small))
 }
 
 /// Whether a path's text is bad before any component is looked at (refusal 5).

@@ -3,6 +3,7 @@
 
 use crate::bytes::{get_u16, get_u32, put_u16, put_u32};
 use crate::geometry::{Geometry, ENTRY_HEAD};
+use crate::names::same_name;
 use std::ops::{Deref, DerefMut};
 
 pub const FREE: u8 = 0;
@@ -70,12 +71,13 @@ impl<B: Deref<Target = [u8]>> Volume<B> {
         (1..self.geometry.n).filter(|&child| !self.is_free(child) && self.parent(child) == directory).collect()
     }
 
-    /// The child of that name. A name is sought only in a directory (document 01, "Names and paths").
+    /// The child of that name, in whatever spelling. A name is sought only in a directory (document 01, "Names and
+    /// paths").
     pub fn seek(&self, directory: usize, name: &[u8]) -> Option<usize> {
         if !self.is_directory(directory) {
             return None;
         }
-        self.children(directory).into_iter().find(|&child| self.name(child) == name)
+        self.children(directory).into_iter().find(|&child| same_name(self.name(child), name))
     }
 
     pub fn has_children(&self, object: usize) -> bool {

@@ -17,7 +17,8 @@ struct Run {
     subsets: (usize, usize),
 }
 
-const NAMES: [&[u8]; 4] = [b"a", b"b", b"c", b"a longer name"];
+/// Some are two spellings of one name, some only look so.
+const NAMES: [&[u8]; 8] = [b"a", b"b", b"B", b"c", b"A longer name", b"a longer namE", b"@", b"`"];
 const PROGRAMS: u64 = 4;
 
 impl Run {
@@ -58,6 +59,13 @@ impl Run {
         self.random.pick(&NAMES).to_vec()
     }
 
+    /// The text as it is, or with the case of its letters changed, of all or of some.
+    fn respell(&mut self, text: &[u8]) -> Vec<u8> {
+        let share = *self.random.pick(&[0, 0, 40, 100]);
+        let other = |byte: &u8, changes: bool| if changes && byte.is_ascii_alphabetic() { byte ^ 32 } else { *byte };
+        text.iter().map(|byte| other(byte, self.random.chance(share))).collect()
+    }
+
     /// A used parent and name, mostly.
     fn place(&mut self) -> (u64, Vec<u8>) {
         let view = self.register.view();
@@ -66,7 +74,7 @@ impl Run {
             return (self.of_kind(true), self.name());
         }
         let node = &view.0[self.random.pick(&used)];
-        (node.parent as u64, node.name.clone())
+        (node.parent as u64, self.respell(&node.name))
     }
 
     fn number(&self) -> u64 {
@@ -131,11 +139,13 @@ impl Run {
         let (program, parent, name) = (self.program(), self.of_kind(true), self.name());
         let object = self.random.below(self.world.n + 1);
         let directory = self.random.chance(40);
+        let taken = self.register.view().child(parent as u16, &name).is_some();
         let answer = if directory {
             self.world.mkdir(program, parent, &name, object)
         } else {
             self.world.create(program, parent, &name, object)
         };
+        assert!(!taken || answer.is_err(), "a name that is there is taken, in whatever spelling");
         let call = if directory { "mkdir" } else { "create" };
         self.changed(call, answer, program, |_| What::Make {
             directory,
@@ -148,6 +158,8 @@ impl Run {
     fn remove(&mut self) -> bool {
         let (program, (parent, name)) = (self.program(), self.place());
         let answer = self.world.remove(program, parent, &name);
+        let there = self.register.view().child(parent as u16, &name).is_some();
+        assert!(!there || answer != Err(8), "found by whatever spelling");
         self.changed("remove", answer, program, |view| {
             let object = view.child(parent as u16, &name).unwrap();
             What::Remove { parent: parent as u16, name, object }
@@ -156,13 +168,20 @@ impl Run {
 
     fn rename(&mut self) -> bool {
         let (program, (from, name)) = (self.program(), self.place());
-        let (to, second) = match self.random.below(4) {
+        let (to, second) = match self.random.below(5) {
             0 => self.place(),
             1 => (from, self.name()),
+            2 => (from, self.respell(&name)),
             _ => (self.of_kind(true), self.name()),
         };
         let answer = self.world.rename(program, from, &name, to, &second);
-        self.changed("rename", answer, program, |view| {
+        let view = self.register.view();
+        let object = view.child(from as u16, &name);
+        let only_case = object
+            .is_some_and(|object| view.child(to as u16, &second) == Some(object) && view.0[&object].name != second);
+        assert!(object.is_none() || !view.directory(to as u16) || answer != Err(8), "found by whatever spelling");
+        let call = if only_case { "rename only of the case" } else { "rename" };
+        self.changed(call, answer, program, |view| {
             let object = view.child(from as u16, &name).unwrap();
             let displaced = view.child(to as u16, &second).filter(|there| *there != object);
             What::Rename { from: from as u16, name, to: to as u16, second, object, displaced }
@@ -280,9 +299,12 @@ impl Run {
             place = view.0[&place].parent;
             operands.insert(place);
         }
-        let path = if path.is_empty() { b"/".to_vec() } else { path };
-        let Ok(object) = self.world.lookup(program, &path) else { return false };
-        assert_eq!(object, target as u64);
+        let path = if path.is_empty() { b"/".to_vec() } else { self.respell(&path) };
+        let answer = self.world.lookup(program, &path);
+        if answer == Err(4) {
+            return false;
+        }
+        assert_eq!(answer, Ok(target as u64), "found by whatever spelling");
         self.asked("lookup", program, operands)
     }
 
@@ -401,6 +423,7 @@ impl Run {
         let (n, b) = (self.world.n, self.world.b);
         let (server, all_apply) = self.register.replay(|one| one.fate == Fate::Sent);
         assert!(all_apply, "the sent ones all apply");
+        assert!(server.names_differ() && self.register.view().names_differ(), "no name is there twice");
         assert!(self.world.server == server.bytes(n, b), "the server is the replay of the sent");
         assert!(self.world.view == self.register.view().bytes(n, b), "the view is the replay of sent and waiting");
         assert!(self.world.log == self.register.log_bytes(self.world.m), "the log is as the history has it");
@@ -470,6 +493,7 @@ fn random_runs_keep_demand_3() {
         "read",
         "remove",
         "rename",
+        "rename only of the case",
         "renew",
         "setlen",
         "stat",

@@ -67,6 +67,7 @@ fn every_rule_of_a_volume() {
         ("its own parent", |v| v[2 * E + 2] = 2),
         ("a circle of two", |v| v[2 * E + 2] = 3),
         ("same parent and name", |v| v[4 * E + 2] = 0),
+        ("same parent and name, spelt in another way", |v| (v[4 * E + 2], v[4 * E + 4]) = (0, v[4 * E + 4] ^ 32)),
         ("directory with a length", |v| v[2 * E + 64] = 1),
         ("directory with data", |v| v[2 * E + 68] = 1),
         ("directory with data at its end", |v| v[3 * E - 1] = 1),
@@ -94,6 +95,7 @@ fn a_volume_at_its_limits_is_good() {
         }),
         ("last byte inside the length", |v| v[E + 68 + 9] = 255),
         ("same name in another parent", |v| v[4 * E + 2] = 3),
+        ("same parent, name with the highest bit", |v| (v[4 * E + 2], v[4 * E + 4]) = (0, v[4 * E + 4] | 128)),
     ];
     for (what, change) in good {
         assert_eq!(with_changed_volume(change), (Ok(0), vec![true, true]), "{what}");

@@ -15,6 +15,7 @@ use Rattle.names.specs.NameLaws.{same-refl as name-refl}
 use Rattle.records.specs.Operation.{Operation, createFile, makeDirectory, remove, rename, overwrite, append, setLength, forder, Record, operands}
 use Rattle.records.specs.Fields.{member, valid, fits}
 use Rattle.entry.specs.Entry.{Entry, free, file, directory, isUsed, isFile, isDirectory, nameOf, parentOf, contentsOf, renamed, refilled, kindNumber}
+use Rattle.entry.specs.EntryLaws.{renamed-parent}
 use Rattle.search.specs.Volume.{Volume, entryAt, isChild, isNamed, search, hasChildren}
 use Rattle.search.specs.Form.{wellFormed}
 use Rattle.buffer.specs.Patch.{patch}
@@ -311,11 +312,6 @@ names-refilled free c o i m = refl
 names-refilled (file n p b) c o i m = refl
 names-refilled (directory n p) c o i m = refl
 
-renamed-parent : (e : Entry) (m : List ℕ) (q : ℕ) → isUsed (renamed e m q) ≡ true → parentOf (renamed e m q) ≡ q
-renamed-parent free m q u = absurd (false≢true u)
-renamed-parent (file n p c) m q u = refl
-renamed-parent (directory n p) m q u = refl
-
 -- An operation that applies changes a volume only at its operands.
 pub apply-elsewhere : (v : Volume) (x : Operation) → applies v x ≡ true → (i : ℕ) → member i (operands x) ≡ false → Same (apply v x) v i
 unfolding apply operands applies
@@ -340,7 +336,7 @@ apply-elsewhere v (rename o p q none n m) t i h =
     let x = member-none i q _ (y .1) in
     let r = rename-there v o p q none n m t in
     set-outside v o (renamed (entryAt v o) m q) (used-below v o (r .used)) i (z .0)
-    (λ u e. x .0 (sym e ∙ renamed-parent (entryAt v o) m q u)) (λ u e. y .0 (sym e ∙ r .parent))
+    (λ u e. x .0 (sym e ∙ renamed-parent (entryAt v o) m q (r .used))) (λ u e. y .0 (sym e ∙ r .parent))
 apply-elsewhere v (rename o p q (some d) n m) t i h =
     let z = member-none i o _ h in
     let y = member-none i p _ (z .1) in
@@ -351,7 +347,7 @@ apply-elsewhere v (rename o p q (some d) n m) t i h =
     let below = used-below v d (k .used) in
     same-trans
     (set-outside (set v d free) o (renamed (entryAt v o) m q) (rw (length-set v d free) (used-below v o (r .used))) i (z .0)
-    (λ u e. x .0 (sym e ∙ renamed-parent (entryAt v o) m q u))
+    (λ u e. x .0 (sym e ∙ renamed-parent (entryAt v o) m q (r .used)))
     (same-or o d
     (λ e u. absurd (false≢true (sym (ap isUsed (ap (entryAt (set v d free)) e ∙ entry-set-same v d free below)) ∙ u)))
     (λ e u f. y .0 (sym f ∙ ap parentOf (entry-set-other v d free o e) ∙ r .parent))))

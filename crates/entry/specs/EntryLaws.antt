@@ -11,7 +11,7 @@ use borrow.Author.Tests.{eq-eqb, eqb-true}
 use lib.Seq.{take-append-seam, drop-at, drop-drop}
 use Rattle.buffer.specs.Numeral.{bytes, numeral}
 use Rattle.buffer.specs.NumeralLaws.{length-bytes, numeral-bytes}
-use Rattle.entry.specs.Entry.{Entry, free, file, directory, kindNumber, nameOf, parentOf, contentsOf}
+use Rattle.entry.specs.Entry.{Entry, free, file, directory, kindNumber, isUsed, nameOf, parentOf, contentsOf, renamed}
 use Rattle.entry.specs.Stored.{padded, entryBytes, encodeEntry, sameBytes, sameEntry, entryOf, readEntry}
 
 -- Bytes that are found to be the same are equal.
@@ -113,3 +113,30 @@ read-entry b e h p k m =
     ap₂ (λ (j : ℕ) (s : List ℕ). entryOf j s two last) kind name
     ∙ ap₂ (λ (j : ℕ) (s : List ℕ). entryOf (kindNumber e) n j s) parent contents
     ∙ entry-of e
+
+-- A used entry under another name and parent has these, and its kind and contents as they were.
+pub renamed-name : (e : Entry) (n : List ℕ) (p : ℕ) → isUsed e ≡ true → nameOf (renamed e n p) ≡ n
+renamed-name free n p u = absurd (false≢true u)
+renamed-name (file m q c) n p u = refl
+renamed-name (directory m q) n p u = refl
+
+pub renamed-parent : (e : Entry) (n : List ℕ) (p : ℕ) → isUsed e ≡ true → parentOf (renamed e n p) ≡ p
+renamed-parent free n p u = absurd (false≢true u)
+renamed-parent (file m q c) n p u = refl
+renamed-parent (directory m q) n p u = refl
+
+pub renamed-kind : (e : Entry) (n : List ℕ) (p : ℕ) → kindNumber (renamed e n p) ≡ kindNumber e
+renamed-kind free n p = refl
+renamed-kind (file m q c) n p = refl
+renamed-kind (directory m q) n p = refl
+
+pub renamed-contents : (e : Entry) (n : List ℕ) (p : ℕ) → contentsOf (renamed e n p) ≡ contentsOf e
+renamed-contents free n p = refl
+renamed-contents (file m q c) n p = refl
+renamed-contents (directory m q) n p = refl
+
+-- Under its own name and parent an entry is as it was.
+pub renamed-own : (e : Entry) → renamed e (nameOf e) (parentOf e) ≡ e
+renamed-own free = refl
+renamed-own (file m q c) = refl
+renamed-own (directory m q) = refl

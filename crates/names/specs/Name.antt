@@ -1,5 +1,5 @@
--- Document 01, "Names and paths": what a name is, and when two texts are the same name.
-use Prim.Native.Nat.{ℕ}
+-- Document 01, "Names and paths", and document 02, K2: what a name is, and when two texts are the same name.
+use Prim.Native.Nat.{ℕ, _+_}
 use mathlib.Core.List.{List, [], _∷_}
 use mathlib.Core.Bool.{Bool, true, false, not, _&&_, _||_, cond}
 use lib.ListN.{length, getD}
@@ -44,9 +44,13 @@ nameNumber Fine = Returned.accepted
 nameNumber Bad = Returned.badName
 nameNumber Long = Returned.longName
 
--- two texts are the same name: byte for byte, to the end of both
+-- document 02, K2, "Letter case in names": "A to Z against a to z"; no other byte changes
+unfoldable pub lowerCase : ℕ → ℕ
+lowerCase v = cond (leb 65 v && leb v 90) (v + 32) v
+
+-- "Names that differ only in A to Z against a to z are now the same name": byte for byte, to the end of both
 unfoldable pub sameName : List ℕ → List ℕ → Bool
 sameName [] [] = true
 sameName [] (b ∷ t) = false
 sameName (a ∷ s) [] = false
-sameName (a ∷ s) (b ∷ t) = eqb a b && sameName s t
+sameName (a ∷ s) (b ∷ t) = eqb (lowerCase a) (lowerCase b) && sameName s t

@@ -1,10 +1,10 @@
 -- Laws of names (document 01, "Names and paths"): the test of a name says exactly what the document's sentence says, and to be the
--- same name is an equivalence of texts.
+-- same name is to be equal in lower case (document 02, K2), so an equivalence of texts.
 -- Assumes nothing.
 use Prim.Native.Nat.{ℕ, zero, suc, _+_, _≤_, _<_, suc-le-suc}
 use mathlib.Core.Path.{_≡_, refl, sym, ap, ap₂, _∙_}
 use mathlib.Core.Bool.{Bool, true, false, not, _&&_, cond, and-eq-true-iff, and-false, false≢true}
-use mathlib.Core.List.{List, [], _∷_, _++_}
+use mathlib.Core.List.{List, [], _∷_, _++_, map}
 use native.Mathlib.Nat.{le-of-suc-le-suc, not-suc-le-zero}
 use native.Mathlib.Numerals.{add-one}
 use native.Mathlib.Omega.{arith}
@@ -14,7 +14,7 @@ use lib.Dec.{leb, eqb}
 use borrow.Author.Tests.{le-leb, lt-leb, leb-true, eq-eqb, ne-eqb, eqb-true, eqb-false, not-true}
 use Rattle.names.specs.declared.NameText.{NameText}
 use Rattle.names.specs.declared.NameText.the-variants.{Fine, Bad, Long}
-use Rattle.names.specs.Name.{permittedByte, allPermitted, isDots, goodText, validName, nameTextOf, sameName}
+use Rattle.names.specs.Name.{permittedByte, allPermitted, isDots, goodText, validName, nameTextOf, lowerCase, sameName}
 
 -- A byte that is permitted is neither 0 nor a slash.
 pub permitted-rule : (v : ℕ) → permittedByte v ≡ true → (v ≡ 0 → ⊥) × (v ≡ 47 → ⊥)
@@ -143,43 +143,59 @@ name-valid s n =
 pub valid-length : (s : List ℕ) → validName s ≡ true → (1 ≤ length s) × (length s ≤ 60)
 valid-length s e = let n = valid-name s e in (n .some, n .short)
 
--- Two texts that are the same name are equal, to the last byte.
-pub same-equal : (s t : List ℕ) → sameName s t ≡ true → s ≡ t
+-- A to Z become a to z, and no other byte changes.
+pub capital-lower : (v : ℕ) → 65 ≤ v → v ≤ 90 → lowerCase v ≡ v + 32
+unfolding lowerCase
+capital-lower v a z = rw (le-leb 65 v a, le-leb v 90 z)
+
+pub below-lower : (v : ℕ) → v < 65 → lowerCase v ≡ v
+unfolding lowerCase
+below-lower v h = rw (lt-leb 65 v h)
+
+pub above-lower : (v : ℕ) → 90 < v → lowerCase v ≡ v
+unfolding lowerCase
+above-lower v h = rw (lt-leb v 90 h, and-false (leb 65 v))
+
+-- Two texts that are the same name are equal in lower case, to the last byte.
+pub same-lower : (s t : List ℕ) → sameName s t ≡ true → map lowerCase s ≡ map lowerCase t
 unfolding sameName
-same-equal [] [] e = refl
-same-equal [] (b ∷ t) e = absurd (false≢true e)
-same-equal (a ∷ s) [] e = absurd (false≢true e)
-same-equal (a ∷ s) (b ∷ t) e =
-    let h = and-eq-true-iff (eqb a b) (sameName s t) .0 e in
-    ap₂ (λ (v : ℕ) (r : List ℕ). v ∷ r) (eqb-true a b (h .0)) (same-equal s t (h .1))
+same-lower [] [] e = refl
+same-lower [] (b ∷ t) e = absurd (false≢true e)
+same-lower (a ∷ s) [] e = absurd (false≢true e)
+same-lower (a ∷ s) (b ∷ t) e =
+    let h = and-eq-true-iff (eqb (lowerCase a) (lowerCase b)) (sameName s t) .0 e in
+    ap₂ (λ (v : ℕ) (r : List ℕ). v ∷ r) (eqb-true (lowerCase a) (lowerCase b) (h .0)) (same-lower s t (h .1))
+
+-- Two texts that are equal in lower case are the same name.
+pub lower-same : (s t : List ℕ) → map lowerCase s ≡ map lowerCase t → sameName s t ≡ true
+unfolding sameName
+lower-same [] [] e = refl
+lower-same [] (b ∷ t) e = let z = ap length e in absurd (omega arith)
+lower-same (a ∷ s) [] e = let z = ap length e in absurd (omega arith)
+lower-same (a ∷ s) (b ∷ t) e =
+    and-eq-true-iff (eqb (lowerCase a) (lowerCase b)) (sameName s t) .1
+    (eq-eqb (lowerCase a) (lowerCase b) (ap (λ (l : List ℕ). getD l 0 0) e), lower-same s t (ap (drop 1) e))
 
 -- A text is the same name as itself.
 pub same-refl : (s : List ℕ) → sameName s s ≡ true
-unfolding sameName
-same-refl [] = refl
-same-refl (a ∷ s) = and-eq-true-iff (eqb a a) (sameName s s) .1 (eq-eqb a a refl, same-refl s)
+same-refl s = lower-same s s refl
 
 -- Two texts are the same name in either order.
 pub same-sym : (s t : List ℕ) → sameName s t ≡ true → sameName t s ≡ true
-unfolding sameName
-same-sym [] [] e = refl
-same-sym [] (b ∷ t) e = absurd (false≢true e)
-same-sym (a ∷ s) [] e = absurd (false≢true e)
-same-sym (a ∷ s) (b ∷ t) e =
-    let h = and-eq-true-iff (eqb a b) (sameName s t) .0 e in
-    and-eq-true-iff (eqb b a) (sameName t s) .1 (eq-eqb b a (sym (eqb-true a b (h .0))), same-sym s t (h .1))
+same-sym s t e = lower-same t s (sym (same-lower s t e))
 
 -- Two texts that are the same name as a third are the same name.
 pub same-trans : (s t r : List ℕ) → sameName s t ≡ true → sameName t r ≡ true → sameName s r ≡ true
-unfolding sameName
-same-trans [] [] r e f = f
-same-trans [] (b ∷ t) r e f = absurd (false≢true e)
-same-trans (a ∷ s) [] r e f = absurd (false≢true e)
-same-trans (a ∷ s) (b ∷ t) [] e f = absurd (false≢true f)
-same-trans (a ∷ s) (b ∷ t) (c ∷ r) e f =
-    let h = and-eq-true-iff (eqb a b) (sameName s t) .0 e in
-    let k = and-eq-true-iff (eqb b c) (sameName t r) .0 f in
-    and-eq-true-iff (eqb a c) (sameName s r) .1 (eq-eqb a c (eqb-true a b (h .0) ∙ eqb-true b c (k .0)), same-trans s t r (h .1) (k .1))
+same-trans s t r e f = lower-same s r (same-lower s t e ∙ same-lower t r f)
+
+-- A text is the same name as another exactly where it is the same name as every other spelling of that.
+pub same-either : (s t : List ℕ) → sameName s t ≡ true → (r : List ℕ) → sameName r s ≡ sameName r t
+same-either s t e r = go (sameName r s) (sameName r t) refl refl
+  where
+    go : (x y : Bool) → sameName r s ≡ x → sameName r t ≡ y → x ≡ y
+    go true y p q = sym (same-trans r s t p e) ∙ q
+    go false true p q = sym p ∙ same-trans r t s q (same-sym s t e)
+    go false false p q = refl
 
 -- Two texts of different lengths are not the same name.
 pub lengths-differ : (s t : List ℕ) → (length s ≡ length t → ⊥) → sameName s t ≡ false
@@ -187,11 +203,12 @@ unfolding sameName
 lengths-differ [] [] h = absurd (h refl)
 lengths-differ [] (b ∷ t) h = refl
 lengths-differ (a ∷ s) [] h = refl
-lengths-differ (a ∷ s) (b ∷ t) h = ap (λ (x : Bool). eqb a b && x) (lengths-differ s t (λ e. h (ap suc e))) ∙ and-false (eqb a b)
+lengths-differ (a ∷ s) (b ∷ t) h =
+    ap (λ (x : Bool). eqb (lowerCase a) (lowerCase b) && x) (lengths-differ s t (λ e. h (ap suc e))) ∙ and-false (eqb (lowerCase a) (lowerCase b))
 
--- Two texts are the same name from a place on where their bytes there are equal, and they are from the next place on.
+-- Two texts are the same name from a place on where their bytes there are equal in lower case, and they are from the next place on.
 pub same-step : (s t : List ℕ) (i : ℕ) → i < length s → i < length t
-    → sameName (drop i s) (drop i t) ≡ eqb (getD s i 0) (getD t i 0) && sameName (drop (i + 1) s) (drop (i + 1) t)
+    → sameName (drop i s) (drop i t) ≡ eqb (lowerCase (getD s i 0)) (lowerCase (getD t i 0)) && sameName (drop (i + 1) s) (drop (i + 1) t)
 unfolding sameName
 same-step s t i h k = simp (add-one, drop-cons s i 0 h, drop-cons t i 0 k)
 
@@ -208,6 +225,22 @@ pub name-examples :
     × (nameTextOf (replicate 60 97 ++ (47 ∷ [])) ≡ Bad)
 unfolding nameTextOf goodText isDots allPermitted permittedByte
 name-examples = (refl, refl, refl, refl, refl, refl, refl, refl)
+
+-- Document 02, K2: "Task" and "task", and names that differ in the case of their last byte, are the same name. So are A and a, Z and z; no
+-- other byte has another spelling: not the neighbours @ and `, [ and {, not the digits, not bytes above 127. A part is another name.
+pub case-examples :
+    (sameName (84 ∷ 97 ∷ 115 ∷ 107 ∷ []) (116 ∷ 97 ∷ 115 ∷ 107 ∷ []) ≡ true)
+    × (sameName (replicate 59 65 ++ (90 ∷ [])) (replicate 59 97 ++ (122 ∷ [])) ≡ true)
+    × (sameName (97 ∷ 66 ∷ []) (65 ∷ 98 ∷ []) ≡ true)
+    × (sameName (97 ∷ 66 ∷ []) (97 ∷ 99 ∷ []) ≡ false)
+    × (sameName (64 ∷ []) (96 ∷ []) ≡ false)
+    × (sameName (91 ∷ []) (123 ∷ []) ≡ false)
+    × (sameName (48 ∷ []) (80 ∷ []) ≡ false)
+    × (sameName (48 ∷ []) (16 ∷ []) ≡ false)
+    × (sameName (192 ∷ []) (224 ∷ []) ≡ false)
+    × (sameName (65 ∷ []) (97 ∷ 97 ∷ []) ≡ false)
+unfolding sameName lowerCase
+case-examples = (refl, refl, refl, refl, refl, refl, refl, refl, refl, refl)
 
 -- a text that is not fine is no valid name
 pub not-fine : (t : List ℕ) (x : NameText) → nameTextOf t ≡ x → (x ≡ Fine → ⊥) → validName t ≡ false

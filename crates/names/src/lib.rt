@@ -3,7 +3,7 @@
 ghost use mathlib.Core.Path.{_≡_};
 ghost use Prim.Native.Nat.{_-_, _≤_};
 ghost use lib.ListN.{length, take, drop};
-ghost use Rattle.names.specs.Name.{allPermitted, isDots, nameTextOf, sameName};
+ghost use Rattle.names.specs.Name.{allPermitted, isDots, nameTextOf, lowerCase, sameName};
 ghost use Rattle.names.specs.Path.{pathTextOf, upToSlash, componentAt};
 
 // "The permitted bytes are a constant table of 256 marks": 1 where the byte may stand in a name.
@@ -330,7 +330,19 @@ pub fn name_text(s: &[u8]) -> NameText
     NameText::Bad
 }
 
-// Whether two texts are the same name: the same bytes, all of them.
+// A byte in lower case: A to Z become a to z, and no other byte changes.
+pub fn lower_case(v: u8) -> u8
+    ensures { λ r. ⌜ r ≡ lowerCase v ⌝ }
+{
+    if 65 <= v {
+        if v <= 90 {
+            return v + 32;
+        }
+    }
+    v
+}
+
+// Whether two texts are the same name: the same bytes, all of them, whatever the case of their letters.
 pub fn same_name(a: &[u8], b: &[u8]) -> bool
     ensures { λ r. ⌜ r ≡ sameName (now (a .entry)) (now (b .entry)) ⌝ }
 {
@@ -339,7 +351,7 @@ pub fn same_name(a: &[u8], b: &[u8]) -> bool
     }
     let mut i = 0;
     while i < a.len() {
-        if a[i] != b[i] {
+        if lower_case(a[i]) != lower_case(b[i]) {
             return false;
         }
         i += 1;

@@ -5,6 +5,7 @@ pub mod Run
 pub mod Takes
 pub mod Claim
 pub mod Across
+pub mod Spelling
 pub mod FateLaws
 pub mod InvariantLaws
 pub mod PickLaws
@@ -27,5 +28,6 @@ pub mod CouldLaws
 pub mod ClaimLaws
 pub mod DemandLaws
 pub mod AcrossLaws
+pub mod SpellingLaws
 pub mod Entries
 pub mod EntryLaws

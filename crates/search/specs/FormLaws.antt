@@ -5,12 +5,14 @@ use Prim.Native.Nat.{ℕ, zero, suc, _*_, _≤_, _<_}
 use native.Mathlib.Omega.{arith}
 use mathlib.Core.Path.{_≡_, refl, sym, ap, _∙_}
 use mathlib.Core.Bool.{Bool, true, false, not, _&&_, _||_, cond, and-eq-true-iff, false≢true}
+use mathlib.Core.List.{[], _∷_}
 use mathlib.Core.Option.{Option, none, some}
 use lib.ListN.{length}
 use lib.Dec.{leb, eqb}
 use borrow.Author.Tests.{le-leb, leb-true, eq-eqb, ne-eqb, eqb-true, eqb-false, not-true}
-use Rattle.names.specs.Name.{validName}
+use Rattle.names.specs.Name.{permittedByte, allPermitted, isDots, goodText, validName, lowerCase, sameName}
 use Rattle.entry.specs.Entry.{Entry, free, file, directory, root, isUsed, isDirectory, nameOf, parentOf, contentsOf}
+use Rattle.entry.specs.Stored.{sameBytes}
 use Rattle.entry.specs.EntryLaws.{same-entry, entry-same}
 use Rattle.search.specs.Volume.{Volume, entryAt, every, lowest}
 use Rattle.search.specs.Form.{climbs, isRoot, placed, twins, apart, wellFormed}
@@ -197,3 +199,12 @@ good-well-formed n b v g =
       and-eq-true-iff (isRoot (entryAt v 0)) (every (length v) f₁ && apart v) .1
           (r, and-eq-true-iff (every (length v) f₁) (apart v) .1 (e, a)),
     )
+
+-- Document 02, K2: "Task" and "task" stand in two directories, but not in one, be they files or directories; "@" and "`" stand in one.
+pub form-examples :
+    (wellFormed 3 1 (root ∷ file (84 ∷ 97 ∷ 115 ∷ 107 ∷ []) 0 [] ∷ file (116 ∷ 97 ∷ 115 ∷ 107 ∷ []) 0 [] ∷ []) ≡ false)
+    × (wellFormed 3 1 (root ∷ file (84 ∷ 97 ∷ 115 ∷ 107 ∷ []) 0 [] ∷ directory (116 ∷ 97 ∷ 115 ∷ 107 ∷ []) 0 ∷ []) ≡ false)
+    × (wellFormed 3 1 (root ∷ directory (84 ∷ 97 ∷ 115 ∷ 107 ∷ []) 0 ∷ file (116 ∷ 97 ∷ 115 ∷ 107 ∷ []) 1 [] ∷ []) ≡ true)
+    × (wellFormed 3 1 (root ∷ file (64 ∷ []) 0 [] ∷ file (96 ∷ []) 0 [] ∷ []) ≡ true)
+unfolding wellFormed apart placed climbs every validName goodText isDots allPermitted permittedByte sameName lowerCase sameBytes
+form-examples = (refl, refl, refl, refl)

@@ -11,6 +11,7 @@ use lib.Seq.{getD-set-same, getD-set-other}
 use lib.Dec.{ltb, eqb}
 use borrow.Author.Tests.{ltb-true, ltb-false, eq-eqb, ne-eqb, eqb-true, eqb-false, not-true}
 use Rattle.names.specs.Name.{sameName}
+use Rattle.names.specs.NameLaws.{same-either}
 use Rattle.entry.specs.Entry.{Entry, free, isUsed, nameOf, parentOf}
 use Rattle.search.specs.Volume.{Volume, entryAt, every, lowest, isChild, isNamed, search, hasChildren}
 use Rattle.search.specs.FormLaws.{every-inv, every-intro, every-not, lowest-none, lowest-some, none-lowest, some-lowest}
@@ -92,6 +93,11 @@ lowest-same k f g h = go (lowest k f) refl
         let r = lowest-some k f i e in
         let l : i < k = r .0 in
         e ∙ sym (some-lowest k g i l (sym (h i l) ∙ r .1) (λ j m. sym (h j (omega arith)) ∙ r .2 j m))
+
+-- a name leads where every spelling of it leads
+pub search-spelling : (v : Volume) (d : ℕ) (n m : List ℕ) → sameName n m ≡ true → search v d n ≡ search v d m
+unfolding search
+search-spelling v d n m e = lowest-same (length v) (isNamed v d n) (isNamed v d m) (λ i l. ap (λ (t : Bool). isChild v d i && t) (same-either n m e (nameOf (entryAt v i))))
 
 -- a change at one entry leaves the search of a name as it was, if that entry has the name there after it exactly if it had it
 pub search-set : (v : Volume) (o : ℕ) (e : Entry) (d : ℕ) (n : List ℕ) → isNamed (set v o e) d n o ≡ isNamed v d n o → search (set v o e) d n ≡ search v d n

@@ -7,11 +7,11 @@ use mathlib.Core.Bool.{cond}
 use mathlib.Core.Option.{Option, none, some}
 use lib.ListN.{replicate}
 use lib.Dec.{eqb}
-use Rattle.names.specs.Name.{permittedByte, allPermitted, isDots, goodText, nameTextOf, sameName}
+use Rattle.names.specs.Name.{permittedByte, allPermitted, isDots, goodText, nameTextOf, lowerCase, sameName}
 use Rattle.names.specs.Path.{pathTextOf, onFirst, split, components}
 use Rattle.records.specs.Kind.{kindOfCode}
 use Rattle.buffer.specs.Numeral.{bytes, numeral}
-use Rattle.records.specs.Operation.{Record, forder as forderOperation, operands}
+use Rattle.records.specs.Operation.{Operation, Record, forder as forderOperation, operands}
 use Rattle.buffer.specs.Patch.{patch}
 use Rattle.records.specs.Fields.{validObjects, validNames, validRange, tied, validParts, valid, encode, fields, headBytes, objectFields, nameFields, rangeFields, pairs, member, different, allUpTo, validList, validHead, differing, inBlock, objectsOf}
 use Rattle.records.specs.Decode.{number, counted, readParts, readRecord, begins, decodeRecord}
@@ -24,12 +24,13 @@ use Rattle.log.specs.Order.{shares, directlyPrecedes, any, closure, needed, pre
 use Rattle.log.specs.OrderCases.{orderIn, order}
 use Rattle.log.specs.Depend.{reach, noted}
 use Rattle.log.specs.Change.{waitingOf, issue, removed, dependentsOf, discard, earliest, waitingAt}
-use Rattle.session.specs.Call.{Geometry, Call, lookup, stat, read, createFile, makeDirectory, remove, rename, write, setLength, push, fsync, cut, take, renew}
+use Rattle.session.specs.Call.{Geometry, Call, lookup, list, stat, read, createFile, makeDirectory, remove, rename, write, setLength, push, fsync, cut, take, renew}
 use Rattle.session.specs.Refusal.{lowestNumber}
 use Rattle.session.specs.Model.{Model, withLog}
-use Rattle.questions.specs.Answer.{statAnswer, objectAnswer, readAnswer, readLeaves}
+use Rattle.questions.specs.Listing.{listing}
+use Rattle.questions.specs.Answer.{statAnswer, objectAnswer, readAnswer, readLeaves, listAnswer, listLeaves}
 use Rattle.lookup.specs.Lookup.{componentAnswer, componentsAnswer, componentsObjects, lookupAnswer, lookupOperands}
-use Rattle.session.specs.Question.{lookupOf, statOf, readOf}
+use Rattle.session.specs.Question.{lookupOf, statOf, readOf, listOf}
 use Rattle.session.specs.Edit.{makeOf, removeOf, renameOf, writeOf, setLengthOf}
 use Rattle.log.specs.Sends.{applying}
 use Rattle.session.specs.Send.{pushOf, fsyncOf, takeOf, renewOf}
@@ -65,6 +66,8 @@ pub data Question : Type 0 where
   answersFrom : ℕ → Geometry → List Call → List Call → Question
   -- calls on a volume as mounted that are all accepted: which of the waiting operations precede each?
   orderAfter : Geometry → List Call → Question
+  -- calls on a volume as mounted that are all accepted, and then a call: what stands in its own buffer after it?
+  leftBy : Geometry → List Call → Call → Question
   -- bytes: which record stands at their start?
   recordOf : List ℕ → Question
 
@@ -74,6 +77,8 @@ pub data Told : Type 0 where
   numbers : List (List ℕ) → Told
   -- of each waiting operation its sequence number, then those of the operations that precede it
   precede : List (List ℕ) → Told
+  -- the bytes of a buffer
+  left : List ℕ → Told
   -- a record
   aRecord : Record → Told
   -- some call before was refused, or there is no record
@@ -92,6 +97,7 @@ answerTo (answersTo g before calls) = onModel (after g before (some (mounted g))
 answerTo (answersFrom n g before calls) =
     onModel (after g before (some (mounted g))) (λ x. numbers (answers g calls (withLog (withNext n (x .log)) x)))
 answerTo (orderAfter g before) = onModel (after g before (some (mounted g))) (λ x. precede (order (waitingOf (x .log .slots))))
+answerTo (leftBy g before c) = onModel (after g before (some (mounted g))) (λ x. left (answerOf g c x .buffer))
 answerTo (recordOf s) = onRecord (decodeRecord s)
 
 pub record Row : Type 0 where
@@ -248,10 +254,60 @@ acrossTheEnd =
     ∷ C 4 (answersTo (geometry 4 2 6) (fileOf 1020) (writeAt 1019 5 ∷ writeAt 1019 6 ∷ [])) (numbers ((0 ∷ 3 ∷ []) ∷ (12 ∷ 0 ∷ []) ∷ []))
     ∷ []
 
+-- three spellings of one name
+abbrev pub Task : List ℕ
+Task = 84 ∷ 97 ∷ 115 ∷ 107 ∷ []
+
+abbrev pub task : List ℕ
+task = 116 ∷ 97 ∷ 115 ∷ 107 ∷ []
+
+abbrev pub TASK : List ℕ
+TASK = 84 ∷ 65 ∷ 83 ∷ 75 ∷ []
+
+-- the root's list, for a program
+abbrev pub listFor : ℕ → ℕ → Call
+listFor p n = list p 0 (replicate n 0)
+
+-- a file 1 that was sent as Task, and its rename to another case, lost
+abbrev pub spellingLost : List Call
+spellingLost = createFile 0 0 Task 1 ∷ push 1 ∷ rename 0 0 task 0 TASK ∷ cut ∷ []
+
+-- document 02, K2: letter case in names
+abbrev pub letterCase : List Row
+letterCase =
+    -- "Two pupils made Task and task in one folder": the second is refused, and every spelling finds and removes the first
+    C 1
+    (answersTo small (createFile 0 0 Task 1 ∷ [])
+    (createFile 1 0 task 2 ∷ makeDirectory 1 0 TASK 2 ∷ lookup 1 (47 ∷ task) ∷ lookup 1 (47 ∷ TASK) ∷ remove 1 0 TASK ∷ lookup 1 (47 ∷ Task) ∷ []))
+    (numbers ((10 ∷ 0 ∷ []) ∷ (10 ∷ 0 ∷ []) ∷ (0 ∷ 1 ∷ []) ∷ (0 ∷ 1 ∷ []) ∷ (0 ∷ 2 ∷ []) ∷ (8 ∷ 0 ∷ []) ∷ []))
+    -- no other byte has a second spelling: "@" and "`" are two names
+    ∷ C 2
+    (answersTo small (createFile 0 0 (named 64) 1 ∷ [])
+    (createFile 0 0 (named 96) 2 ∷ lookup 0 (47 ∷ 64 ∷ []) ∷ lookup 0 (47 ∷ 96 ∷ []) ∷ []))
+    (numbers ((0 ∷ 2 ∷ []) ∷ (0 ∷ 1 ∷ []) ∷ (0 ∷ 2 ∷ []) ∷ []))
+    -- "kept as typed"
+    ∷ C 3 (leftBy small (createFile 0 0 Task 1 ∷ []) (listFor 0 8)) (left (1 ∷ 0 ∷ 1 ∷ 4 ∷ Task))
+    -- "one that only changes the case of the stored name displaces nothing and changes the stored spelling"
+    ∷ C 4 (leftBy small (createFile 0 0 Task 1 ∷ rename 0 0 task 0 TASK ∷ []) (listFor 0 8)) (left (1 ∷ 0 ∷ 1 ∷ 4 ∷ TASK))
+    -- "in the same parent, only the stored spelling itself changes nothing"
+    ∷ C 4 (leftBy small (createFile 0 0 Task 1 ∷ rename 0 0 task 0 Task ∷ []) (listFor 0 8)) (left (1 ∷ 0 ∷ 1 ∷ 4 ∷ Task))
+    -- "records keep both names as typed", and the lost rename displaced nothing; the server keeps the old spelling
+    ∷ C 5 (leftBy small spellingLost (take 0 buffer))
+    (left (encode (record { sequence = 2; program = 0; operation = Operation.rename 1 0 0 none task TASK }) ++ replicate 1016 0))
+    ∷ C 5 (leftBy small spellingLost (listFor 1 8)) (left (1 ∷ 0 ∷ 1 ∷ 4 ∷ Task))
+    -- another spelling of another object's name displaces that one: "b" is stored, and B is gone
+    ∷ C 6 (leftBy small (createFile 0 0 (named 97) 1 ∷ createFile 0 0 (named 66) 2 ∷ rename 0 0 (named 65) 0 (named 98) ∷ []) (listFor 0 5))
+    (left (1 ∷ 0 ∷ 1 ∷ 1 ∷ 98 ∷ []))
+    -- sent in issue order, each applies to the spelling that it meets
+    ∷ C 7
+    (answersTo small (createFile 0 0 Task 1 ∷ []) (rename 0 0 TASK 0 task ∷ remove 0 0 TASK ∷ push 1 ∷ push 3 ∷ push 2 ∷ push 3 ∷ []))
+    (numbers ((0 ∷ 2 ∷ []) ∷ (0 ∷ 3 ∷ []) ∷ (0 ∷ []) ∷ (15 ∷ []) ∷ (0 ∷ []) ∷ (0 ∷ []) ∷ []))
+    ∷ []
+
 abbrev pub table : List Row
-table = cases ++ (examples ++ acrossTheEnd)
+table = cases ++ (examples ++ (acrossTheEnd ++ letterCase))
 
 -- every row: the definitions give what the documents tell
 pub cases-hold : map (λ r. answerTo (r .asked)) table ≡ map (λ r. r .told) table
-unfolding permittedByte allPermitted isDots goodText nameTextOf sameName pathTextOf kindOfCode numeral operands member different allUpTo validList validHead differing inBlock objectsOf number counted readParts readRecord begins decodeRecord validObjects validNames validRange tied validParts valid usage every lowest search hasChildren formatted applies apply with unionOf shares directlyPrecedes any closure needed predecessors preceded orderIn reach noted waitingOf issue removed dependentsOf discard earliest waitingAt lowestNumber lookupOf statOf makeOf renameOf writeOf setLengthOf pushOf applying fsyncOf perform performAll issuing effectsOf answerOf leavesOf lookupAnswer lookupOperands statAnswer objectAnswer mounted after answers answerTo encode fields headBytes objectFields nameFields rangeFields bytes pairs patch readAnswer readLeaves readOf takeOf renewOf removeOf without components split onFirst componentsAnswer componentAnswer componentsObjects
+unfolding permittedByte allPermitted isDots goodText nameTextOf lowerCase sameName pathTextOf kindOfCode numeral operands member different allUpTo validList validHead differing inBlock objectsOf number counted readParts readRecord begins decodeRecord validObjects validNames validRange tied validParts valid usage every lowest search hasChildren formatted applies apply with unionOf shares directlyPrecedes any closure needed predecessors preceded orderIn reach noted waitingOf issue removed dependentsOf discard earliest waitingAt lowestNumber lookupOf statOf makeOf renameOf writeOf setLengthOf pushOf applying fsyncOf perform performAll issuing effectsOf answerOf leavesOf lookupAnswer lookupOperands statAnswer objectAnswer mounted after answers answerTo encode fields headBytes objectFields nameFields rangeFields bytes pairs patch readAnswer readLeaves readOf takeOf renewOf removeOf without components split onFirst componentsAnswer componentAnswer componentsObjects listing listAnswer listLeaves listOf
 cases-hold = refl

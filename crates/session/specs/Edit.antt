@@ -66,7 +66,8 @@ wrongRename v d e k o =
     || ofFound (displaced o (search v e k)) (λ i. not (eqb (kindNumber (entryAt v i)) (kindNumber (entryAt v o))))
 
 -- "Rename replaces a file by a file or an empty directory by a directory. A directory stays in its parent. Renaming to the
--- same name is logged with map 55 and changes nothing." 8 and 9 are judged on what can be judged over both sides.
+-- same name is logged with map 55", and "changes nothing" where that is the stored spelling (document 02, K2). 8 and 9 are judged on what
+-- can be judged over both sides.
 abbrev pub renameRows : Volume → ℕ → List ℕ → ℕ → List ℕ → List Row
 renameRows v d n e k =
     row Returned.badName (isBad (nameTextOf n) || isBad (nameTextOf k))

@@ -15,8 +15,8 @@ use Rattle.search.specs.Volume.{Volume, entryAt, every, isChild}
 use Rattle.search.specs.Form.{twins}
 use Rattle.search.specs.FormLaws.{every-intro, every-not}
 use Rattle.search.specs.ClimbLaws.{or-right}
-use Rattle.names.specs.NameLaws.{same-equal}
-use Rattle.twins.specs.Code.Checks.{digest, aloneFrom}
+use Rattle.names.specs.NameLaws.{same-lower}
+use Rattle.twins.specs.Code.Checks.{digestFrom, digest, aloneFrom}
 
 module _ (k n : ℕ) (f : ℕ → Bool) (size : k ≡ n) where
   -- One number below a bound that fails a test fails the test of all.
@@ -57,7 +57,7 @@ module _ (f : Entry → ℕ) (v : Volume) (i : ℕ) (l : List ℕ) (inv : Passed
 
 -- Names that are the same have one digest.
 pub same-digest : (s t : List ℕ) → sameName s t ≡ true → digest s ≡ digest t
-same-digest s t e = ap digest (same-equal s t e)
+same-digest s t e = ap (digestFrom 0) (same-lower s t e)
 
 -- An entry does not share parent and name with one whose name has another digest.
 pub other-name : (v : Volume) (i j : ℕ) → (digest (nameOf (entryAt v i)) ≡ digest (nameOf (entryAt v j)) → ⊥) → false ≡ twins v i j

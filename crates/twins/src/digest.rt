@@ -1,20 +1,21 @@
-// A digest of every name: names of different digests differ, so that few pairs of names are compared byte for byte.
+// A digest of every name, the same for each spelling of it: names of different digests differ, so that few pairs of names are
+// compared byte for byte.
 ghost use mathlib.Core.Path.{_≡_};
 ghost use Rattle.search.specs.Stored.{readVolume};
 ghost use Rattle.search.specs.Code.Lent.{Lent};
 ghost use Rattle.twins.specs.Code.Checks.{digest, Digested};
-use buffer::number::byte_at;
 use entry::field::name;
+use names::lower_case;
 use search::entries::entry;
 
-// The digest of a name.
+// The digest of a name, whatever the case of its letters.
 fn digest_of(name: &[u8]) -> usize
     ensures { λ r. ⌜ r ≡ digest (now (name .entry)) ⌝ }
 {
     let mut seen = 0;
     let mut i = 0;
     while i < name.len() {
-        seen = seen % 4294967296 * 31 + byte_at(name, i);
+        seen = seen % 4294967296 * 31 + lower_case(name[i]) as usize;
         i += 1;
     }
     seen

@@ -12,6 +12,7 @@ use Rattle.buffer.specs.Patch.{patch}
 use Rattle.buffer.specs.Numeral.{bytes}
 use Rattle.buffer.specs.NumeralLaws.{length-bytes}
 use Rattle.entry.specs.Entry.{Entry, free, file, directory, isUsed, isFile, kindNumber, nameOf, parentOf, contentsOf, renamed, refilled}
+use Rattle.entry.specs.EntryLaws.{renamed-contents}
 use Rattle.entry.specs.Stored.{entryBytes, encodeEntry, entryOf}
 use Rattle.entry.specs.Write.{headField, resized}
 use Rattle.entry.specs.WriteLaws.{resized-length, patch-inside, length-patch, length-head, head-written, overwritten, appended, shortened, lengthened, cleared}
@@ -90,17 +91,12 @@ new-sized b zero parent name h = (refl, record { name = omega arith; contents = 
 new-sized b (suc zero) parent name h = (refl, record { name = h; contents = omega arith })
 new-sized b (suc (suc k)) parent name h = (refl, record { name = h; contents = omega arith })
 
--- The head of an entry under another name and parent, its contents, and its limits.
+-- The head of an entry under another name and parent, and its limits.
 renamed-head : (x : Entry) (name : List ℕ) (parent : ℕ) → isUsed x ≡ true
     → headField (kindNumber x) parent name ≡ headField (kindNumber (renamed x name parent)) (parentOf (renamed x name parent)) (nameOf (renamed x name parent))
 renamed-head free name parent u = absurd (false≢true u)
 renamed-head (file n p c) name parent u = refl
 renamed-head (directory n p) name parent u = refl
-
-renamed-contents : (x : Entry) (name : List ℕ) (parent : ℕ) → contentsOf (renamed x name parent) ≡ contentsOf x
-renamed-contents free name parent = refl
-renamed-contents (file n p c) name parent = refl
-renamed-contents (directory n p) name parent = refl
 
 renamed-sized : (b : ℕ) (x : Entry) (name : List ℕ) (parent : ℕ) → length name ≤ 60 → Sized b x → Sized b (renamed x name parent)
 renamed-sized b free name parent h z = z

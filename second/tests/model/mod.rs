@@ -41,9 +41,20 @@ impl Tree {
         self.0.get(&object).is_some_and(|node| !node.directory)
     }
 
+    /// The child of that name; A to Z and a to z make no other name (document 02, K2).
     pub fn child(&self, parent: u16, name: &[u8]) -> Option<u16> {
-        let named = |(object, node): &(&u16, &Node)| **object != 0 && node.parent == parent && node.name == name;
+        let named = |(object, node): &(&u16, &Node)| {
+            **object != 0 && node.parent == parent && node.name.eq_ignore_ascii_case(name)
+        };
         self.0.iter().find(named).map(|(object, _)| *object)
+    }
+
+    /// Whether no directory has one name twice, in whatever spelling.
+    pub fn names_differ(&self) -> bool {
+        let places = self.0.iter().filter(|(object, _)| **object != 0);
+        let places: Vec<(u16, Vec<u8>)> =
+            places.map(|(_, node)| (node.parent, node.name.to_ascii_lowercase())).collect();
+        places.iter().collect::<BTreeSet<_>>().len() == places.len()
     }
 
     pub fn childless(&self, object: u16) -> bool {
