@@ -70,7 +70,7 @@ static void status(int line, const char *what, struct wb_status got,
 #define CODE(call, wanted) equal(__LINE__, #call, ".returned", (call).returned, wanted)
 #define VALUE(call, ...) value(__LINE__, #call, call, __VA_ARGS__)
 #define STATUS(call, ...) status(__LINE__, #call, call, __VA_ARGS__)
-#define SAME(got, wanted, length) same(__LINE__, #got, got, wanted, length)
+#define SAME(got, ...) same(__LINE__, #got, got, __VA_ARGS__)
 #define BYTES(got, ...) SAME(got, ((const uint8_t[]){__VA_ARGS__}), sizeof((const uint8_t[]){__VA_ARGS__}))
 /* All 19 fields of a loss record, 8 bytes each. */
 #define RECORD(call, ...) \
@@ -326,6 +326,130 @@ static void across_end(void)
     BYTES(in_server, 5, 0, 0, 0, 'a', 'b', 'c', 'd', 'e', 0);
 }
 
+#define NAME(name) (name), WB_NAME_BYTES
+
+/* Two spellings of the longest name, which differ in its last byte. */
+static uint8_t small[WB_NAME_BYTES], capital[WB_NAME_BYTES];
+
+/* On a new volume, operation 1 makes file 1 by one of them, and operation 2, a rename, gives it the other. */
+static void spellings(void)
+{
+    uint8_t *const in_server = s.at + ENTRY + 4, *const second = l.at + 8 + (LOG - 8) / M; /* name of entry 1; the second slot */
+    uint8_t path[1 + WB_NAME_BYTES] = {'/'};
+    memset(small, 'n', sizeof small);
+    memcpy(capital, small, sizeof capital);
+    capital[WB_NAME_BYTES - 1] = 'N';
+    memcpy(path + 1, capital, sizeof capital);
+    CODE(wb_format(N, B, M, s.at, s.length), WB_ACCEPTED);
+    CODE(wb_mount(LENT), WB_ACCEPTED);
+    VALUE(wb_create(LENT, 0, 0, NAME(small), 1), WB_ACCEPTED, 1);
+    VALUE(wb_create(LENT, 0, 0, NAME(capital), 2), WB_TAKEN, 0);
+    VALUE(wb_mkdir(LENT, 0, 0, NAME(capital), 2), WB_TAKEN, 0);
+    VALUE(wb_lookup(LENT, 0, path, sizeof path), WB_ACCEPTED, 1);
+    VALUE(wb_list(LENT, 0, 0, OWN), WB_ACCEPTED, 64);
+    SAME(own.at + 4, NAME(small));
+    VALUE(wb_rename(LENT, 0, 0, NAME(capital), 0, NAME(capital)), WB_ACCEPTED, 2);
+    BYTES(second, 1, 0, 0, 0, 1, 0, 0, 0, 55, 0, 2, 0, 0, 0, 0, 4, 1, 0, 0, 0, 0, 0, 60, 'n');
+    SAME(second + 23, NAME(capital));
+    SAME(second + 84, NAME(capital));
+    VALUE(wb_list(LENT, 0, 0, OWN), WB_ACCEPTED, 64);
+    SAME(own.at + 4, NAME(capital));
+    CODE(wb_push(LENT, 1), WB_ACCEPTED);
+    SAME(in_server, NAME(small));
+    CODE(wb_push(LENT, 2), WB_ACCEPTED);
+    SAME(in_server, NAME(capital));
+}
+
+/* Operation 3 renames the file to the stored spelling, which changes nothing; 4, a rename, and 5, a remove, are lost. Losses have
+ * the names as typed. */
+static void lost_spellings(void)
+{
+    uint8_t *const in_view = v.at + ENTRY; /* entry 1 */
+    VALUE(wb_rename(LENT, 0, 0, NAME(small), 0, NAME(capital)), WB_ACCEPTED, 3);
+    SAME(v.at, s.at, VOLUME);
+    VALUE(wb_rename(LENT, 0, 0, NAME(small), 0, NAME(small)), WB_ACCEPTED, 4);
+    SAME(in_view + 4, NAME(small));
+    VALUE(wb_remove(LENT, 0, 0, NAME(capital)), WB_ACCEPTED, 5);
+    BYTES(in_view, 0, 0, 0, 0, 0);
+    VALUE(wb_fsync(LENT, 0, 0, 1), WB_LINK_LOST, 1);
+    SAME(in_view + 4, NAME(capital));
+    VALUE(wb_take(LENT, 0, OWN), WB_ACCEPTED, 136);
+    RECORD(wb_record(0, OWN), 0, 136, 4, 0, 4, 55, 1, 0, 0, 0, 15, 60, 76, 60, 0, 0, 0, 0, 0);
+    SAME(own.at + 15, NAME(small));
+    SAME(own.at + 76, NAME(small));
+    VALUE(wb_take(LENT, 0, OWN), WB_ACCEPTED, 73);
+    SAME(own.at + 13, NAME(capital));
+    CODE(wb_renew(LENT, 0), WB_ACCEPTED);
+    VALUE(wb_remove(LENT, 0, 0, NAME(small)), WB_ACCEPTED, 6);
+    CODE(wb_push(LENT, 6), WB_ACCEPTED);
+    BYTES(s.at + ENTRY, 0, 0, 0, 0, 0);
+}
+
+/* Bytes that differ as the two cases of a letter do and are no letters, or not both: their names are different. */
+static void different_names(void)
+{
+    static const uint8_t pairs[][2] = {{'@', '`'}, {'[', '{'}, {'0', 'P'}, {'0', 16}, {'9', 'Y'}, {'9', 25}, {'_', 127}, {192, 224},
+        {128 + 'a', 128 + 'A'}};
+    uint64_t sequence = 7;
+    size_t i;
+    for (i = 0; i < sizeof pairs / sizeof *pairs; i++) {
+        const uint8_t paths[2][2] = {{'/', pairs[i][0]}, {'/', pairs[i][1]}};
+        VALUE(wb_create(LENT, 0, 0, &pairs[i][0], 1, 1), WB_ACCEPTED, sequence++);
+        VALUE(wb_create(LENT, 0, 0, &pairs[i][1], 1, 2), WB_ACCEPTED, sequence++);
+        VALUE(wb_lookup(LENT, 0, paths[0], 2), WB_ACCEPTED, 1);
+        VALUE(wb_lookup(LENT, 0, paths[1], 2), WB_ACCEPTED, 2);
+        VALUE(wb_remove(LENT, 0, 0, &pairs[i][1], 1), WB_ACCEPTED, sequence++);
+        VALUE(wb_lookup(LENT, 0, paths[1], 2), WB_NO_OBJECT, 0);
+        VALUE(wb_remove(LENT, 0, 0, &pairs[i][1], 1), WB_NO_OBJECT, 0);
+        VALUE(wb_remove(LENT, 0, 0, &pairs[i][0], 1), WB_ACCEPTED, sequence++);
+        VALUE(wb_fsync(LENT, 0, 0, 4), WB_ACCEPTED, 4);
+    }
+}
+
+/* Puts an empty file or directory with a name of two bytes into a volume. */
+static void put_entry(struct bytes volume, size_t object, uint8_t kind, uint8_t parent, const char *name)
+{
+    uint8_t *const at = volume.at + object * ENTRY;
+    memset(at, 0, ENTRY);
+    at[0] = kind;
+    at[1] = 2;
+    at[2] = parent;
+    memcpy(at + 4, name, 2);
+}
+
+/* Two spellings of a name in one directory of a volume: every entry is refused. In two directories, or with bytes that are no
+ * letters, they are not. */
+static void name_twice(struct bytes volume)
+{
+    int entry;
+    put_entry(volume, 1, 2, 0, "aZ");
+    put_entry(volume, 2, 1, 0, "Az");
+    for (entry = volume.at == s.at ? MOUNT : LOOKUP; entry < ENTRIES; entry++)
+        refused(__LINE__, entry, usual, WB_DAMAGED);
+    put_entry(volume, 2, 1, 1, "Az");
+    VALUE(wb_lookup(LENT, 0, TEXT("/")), WB_ACCEPTED, 0);
+    put_entry(volume, 3, 2, 1, "aZ");
+    for (entry = volume.at == s.at ? MOUNT : LOOKUP; entry < ENTRIES; entry++)
+        refused(__LINE__, entry, usual, WB_DAMAGED);
+    put_entry(volume, 2, 1, 1, "[z");
+    put_entry(volume, 3, 1, 1, "{z");
+    VALUE(wb_lookup(LENT, 0, TEXT("/")), WB_ACCEPTED, 0);
+}
+
+/* The view takes what the server volume has, whatever it holds itself. */
+static void names_twice(void)
+{
+    name_twice(v);
+    put_entry(v, 3, 1, 1, "[Z");
+    CODE(wb_renew(LENT, 0), WB_DAMAGED);
+    CODE(wb_mount(LENT), WB_ACCEPTED);
+    SAME(v.at, s.at, VOLUME);
+    name_twice(s);
+    CODE(wb_mount(LENT), WB_ACCEPTED);
+    VALUE(wb_lookup(LENT, 0, TEXT("/Az/{Z")), WB_ACCEPTED, 3);
+    VALUE(wb_lookup(LENT, 0, TEXT("/Az/[Z")), WB_ACCEPTED, 2);
+}
+
 int main(void)
 {
     uint8_t guard[GUARD], root[VOLUME] = {2};
@@ -345,6 +469,10 @@ int main(void)
     records();
     session();
     across_end();
+    spellings();
+    lost_spellings();
+    different_names();
+    names_twice();
     for (i = 0; i < 4; i++) {
         SAME(areas[i], guard, GUARD);
         SAME(areas[i] + sizes[i] - GUARD, guard, GUARD);

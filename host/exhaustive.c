@@ -1,10 +1,10 @@
 /* Bounded and exhaustive: all sequences of up to 4 operations from a small alphabet on 3 objects, every closed set of them sent
- * by pushes in every order, then a cut. A write across the end of a file is two operations of a sequence. Run it with
- * ./exhaustive. What buffers, answers, marks and losses have to be is reckoned by the host alone, in exhaustive_parts/trial.c.
- * It stops with 1 at the first difference. */
+ * by pushes in every order, then a cut. A write across the end of a file is two operations of a sequence. Names come in several
+ * spellings. Run it with ./exhaustive. What buffers, answers, marks and losses have to be is reckoned by the host alone, in
+ * exhaustive_parts/trial.c. It stops with 1 at the first difference. */
 #include <string.h>
 #include <time.h>
-#include "trial.h"
+#include "spellings.h"
 
 static const struct assignment assignments[] = {
     {"0, 1, 2, 3; 5 asks before each cut", 5, {0, 1, 2, 3, 4}, BEFORE_CUT},
@@ -79,12 +79,13 @@ static void check_across(unsigned sent)
 }
 
 /* After a cut with the set sent: the dependents of all others are marked. The programs that issue, one that does nothing and the
- * asker recover, and then the log is empty. */
+ * asker recover, and then the log is empty and looking up notes no dependence. */
 static void check_recovery(struct buffers *lent, unsigned sent, const uint32_t dependents[MOST])
 {
     struct remains left;
     uint64_t program;
     check_across(sent);
+    check_spellings(lent, sent);
     outcome(sent, left.volume);
     left.losses = all() & ~sent;
     left.marks = dependents_of(left.losses, dependents);
@@ -92,6 +93,7 @@ static void check_recovery(struct buffers *lent, unsigned sent, const uint32_t d
     for (program = 0; program <= now.assignment->count && program < ASKER; program++)
         recover(lent, program, &left);
     recover(lent, ASKER, &left);
+    look_up_all(lent);
     check_lost(lent, left.volume, 0, 0);
 }
 
@@ -262,22 +264,29 @@ static void note_issued(struct stage *next)
     uint64_t objects[WB_LIST_OBJECTS];
     depend(next->dependents, operation->program, objects, operands(operation, objects));
     next->dependents[now.issued] = UINT32_C(1) << operation->program;
+    count_spellings(&view, operation);
     equal("whether an accepted operation applies to the view", (uint64_t)replay(&view, operation), 1);
     now.issued++;
     now.asked--;
     counts.kinds[operation->kind]++;
 }
 
-/* The call is refused and changes nothing. One that only lacks a slot is refused for that. */
+/* The call is refused and changes nothing. One that only lacks a slot is refused for that, and one that would make an object is for
+ * a name that is there in another spelling. */
 static void check_refused(struct wb_value got, const struct buffers *lent, int lacks_slot)
 {
+    const struct volume view = volume_of(stage()->view);
+    const int taken = taken_otherwise(&view, &now.operations[now.issued]);
     equal("whether the call is refused", got.returned != WB_ACCEPTED && got.value == 0, 1);
     if (lacks_slot)
         answered("a write across the end with one slot free", got.returned, WB_LOG_FULL);
+    if (taken)
+        answered("making an object whose name is there in another spelling", got.returned, WB_TAKEN);
     unchanged("the refused call", lent, &stage()->lent);
     now.asked = 0;
     counts.refused++;
     counts.one_slot += (uint64_t)lacks_slot;
+    counts.taken_other += (uint64_t)taken;
 }
 
 /* Issues the letter in a copy of the present stage. Tells how many operations that are; none if it is refused, as it is if the
@@ -368,6 +377,7 @@ static void prepare(void)
     }
     same("the starting volume", lent->server, view.bytes, VOLUME);
     answered("mount", wb_mount(LENT(lent)).returned, WB_ACCEPTED);
+    try_twice(lent);
 }
 
 static void print_count(uint64_t count, const char *text) { printf("%12lu %s\n", (unsigned long)count, text); }
@@ -386,6 +396,11 @@ static void print_alphabet(void)
     print_count(counts.common, "pairs of overwrites with a common byte");
     print_count(counts.across, "writes across the end, an overwrite and an append each");
     print_count(counts.one_slot, "writes across the end refused with one slot free");
+    print_count(counts.by_other, "removes and renames that found their object by another spelling");
+    print_count(counts.case_alone, "renames that change only the case");
+    print_count(counts.displacing_other, "renames that displace an object with the name in another spelling");
+    print_count(counts.taken_other, "objects not made, since their name was there in another spelling");
+    print_count(counts.twice, "volumes with two spellings of a name in a directory, all refused");
 }
 
 static void print_counts(void)
@@ -404,6 +419,10 @@ static void print_counts(void)
     print_count(counts.both, "writes across the end sent whole when the link broke");
     print_count(counts.overwrite_alone, "with the overwrite sent and the append lost; none the other way round");
     print_count(counts.neither, "lost whole");
+    print_count(counts.new_spelling, "renames that change only the case with the new spelling on the server when the link broke");
+    print_count(counts.old_spelling, "with the old spelling there");
+    print_count(counts.no_spelling, "with neither, the object being gone, not yet there or under another name");
+    print_count(counts.looked, "objects then looked up by another spelling");
     print_count(counts.losses, "losses fetched");
     print_count(counts.calls, "calls");
     printf("all %lu sequences held\n", (unsigned long)sequences);

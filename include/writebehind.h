@@ -27,8 +27,12 @@
  *
  * OBJECTS AND NAMES. An object is a number below n. Object 0 is the root directory; the others are free, files or directories.
  * The caller chooses a free number for what it creates. A name has 1 to 60 bytes, none of them 0 or a slash, and is neither
- * "." nor "..". Names are the same if they agree byte for byte. A text that is no name is WB_LONG_NAME if its length over 60
- * is its only fault, else WB_BAD_NAME.
+ * "." nor "..". A text that is no name is WB_LONG_NAME if its length over 60 is its only fault, else WB_BAD_NAME.
+ *
+ * SPELLING. Names that differ only in A to Z against a to z are the same name; all other bytes have to agree. Where a name is
+ * sought, any spelling finds it: with "Task" in a directory "task" leads to it, and cannot be created beside it. A name is stored
+ * as it was typed, and an operation keeps its names as they were typed in the call. A volume with two names in one directory that
+ * are the same is WB_DAMAGED.
  *
  * OPERATIONS AND THEIR ORDER. Each accepted change (create, make directory, remove, rename, write, set length) is made in the
  * view at once, gets the next sequence number, from 1 on, and waits in a slot of the log. So does an accepted forder, which
@@ -110,7 +114,7 @@ enum wb_returned {
     WB_BAD_NUMBER = 7,    /* an object or parent is n or more; the object to be created is 0; a bad forder list */
     WB_NO_OBJECT = 8,     /* an object or parent is free, or a name to be found is absent */
     WB_WRONG_KIND = 9,    /* a file where a directory is needed, or the reverse; a directory would leave its parent */
-    WB_TAKEN = 10,        /* the name, or the number of the new object, is in use */
+    WB_TAKEN = 10,        /* the name, in whatever spelling, or the number of the new object is in use */
     WB_NOT_EMPTY = 11,    /* a directory to be removed or displaced has children */
     WB_BAD_RANGE = 12,    /* a write, a new length or an offset to read from is not as the call needs it */
     WB_LOG_FULL = 13,     /* too few of the m slots are free: each waiting and each lost operation uses one */
@@ -172,7 +176,8 @@ struct wb_status {
 };
 
 /* What wb_record tells of a loss record. A field that the record does not have is 0. Names, data and list are told by the place
- * in the buffer where they begin, counted from its start, and their length in bytes; they are read from there. */
+ * in the buffer where they begin, counted from its start, and their length in bytes; they are read from there. Names are as they
+ * were typed in the call. */
 struct wb_loss {
     uint64_t returned;
     uint64_t next;            /* the place after the record */
@@ -211,7 +216,8 @@ struct wb_code wb_format(uint64_t n, uint64_t b, uint64_t m, uint8_t *server, ui
  *   n, b, m         the three numbers, here and in every call below
  *   server          read
  *   view, log       written whole
- * Answers nothing else. Refused with, in this order: WB_WRONG_BUFFER, WB_DAMAGED (the form of the server volume).
+ * Answers nothing else. Refused with, in this order: WB_WRONG_BUFFER, WB_DAMAGED (the form of the server volume; two names of a
+ * directory that are the same break it too).
  */
 struct wb_code wb_mount(uint64_t n, uint64_t b, uint64_t m, const uint8_t *server, uint64_t server_length,
                         uint8_t *view, uint64_t view_length, uint8_t *log, uint64_t log_length);
@@ -223,7 +229,8 @@ struct wb_code wb_mount(uint64_t n, uint64_t b, uint64_t m, const uint8_t *serve
  *   server, view    read
  *   log             dependence is noted: on the root, the directories searched and the object found
  *   program         the program that asks
- *   path            read: 1 to 1,023 bytes, a slash first. "/" is the root; any other has a name after each slash
+ *   path            read: 1 to 1,023 bytes, a slash first. "/" is the root; any other has a name after each slash, in whatever
+ *                   spelling
  * Answers in value the object. Refused with, in this order: WB_WRONG_BUFFER, WB_DAMAGED, WB_BAD_PROGRAM, WB_MARKED, WB_BAD_NAME
  * (the length of the path, or no slash first); then for each component in turn, before the next: WB_BAD_NAME (an empty one too,
  * from a doubled or last slash), WB_LONG_NAME, WB_NO_OBJECT (absent from the directory reached), WB_WRONG_KIND (a file reached).
@@ -239,7 +246,7 @@ struct wb_value wb_lookup(uint64_t n, uint64_t b, uint64_t m, const uint8_t *ser
  *   program         the program that asks
  *   object          the directory
  *   buffer          written from its start, the rest stays: for each child, by rising number, its number (2 bytes, low byte
- *                   first), kind (1; 1 file, 2 directory), length of the name (1) and name
+ *                   first), kind (1; 1 file, 2 directory), length of the name (1) and name as stored
  * Answers in value the bytes written. Refused with, in this order: WB_WRONG_BUFFER, WB_DAMAGED, WB_BAD_PROGRAM, WB_MARKED,
  * WB_BAD_NUMBER, WB_NO_OBJECT, WB_WRONG_KIND (a file), WB_SHORT_BUFFER (the whole listing does not fit).
  */
@@ -285,11 +292,12 @@ struct wb_value wb_read(uint64_t n, uint64_t b, uint64_t m, const uint8_t *serve
  *   log             dependence on object and parent is noted; the operation is put into a slot
  *   program         the program that issues the operation
  *   parent          the directory
- *   name            read: the name of the new object
+ *   name            read: the name of the new object, stored as typed
  *   object          a free number for it, 1 to n - 1
  * Answers in value the sequence number. Refused with, in this order: WB_WRONG_BUFFER, WB_DAMAGED, WB_BAD_PROGRAM, WB_MARKED,
  * WB_BAD_NAME, WB_LONG_NAME, WB_BAD_NUMBER (parent or object n or more, object 0), WB_NO_OBJECT (the parent is free),
- * WB_WRONG_KIND (the parent is a file), WB_TAKEN (the name or the number is in use), WB_LOG_FULL, WB_SPENT.
+ * WB_WRONG_KIND (the parent is a file), WB_TAKEN (the name, in whatever spelling, or the number is in use), WB_LOG_FULL,
+ * WB_SPENT.
  */
 struct wb_value wb_create(uint64_t n, uint64_t b, uint64_t m, const uint8_t *server, uint64_t server_length,
                           uint8_t *view, uint64_t view_length, uint8_t *log, uint64_t log_length,
@@ -306,7 +314,7 @@ struct wb_value wb_mkdir(uint64_t n, uint64_t b, uint64_t m, const uint8_t *serv
  *   log             dependence on object and parent is noted; the operation is put into a slot
  *   program         the program that issues the operation
  *   parent          the directory
- *   name            read: the name to be found in it
+ *   name            read: the name to be found in it, in whatever spelling
  * Answers in value the sequence number. Refused with, in this order: WB_WRONG_BUFFER, WB_DAMAGED, WB_BAD_PROGRAM, WB_MARKED,
  * WB_BAD_NAME, WB_LONG_NAME, WB_BAD_NUMBER, WB_NO_OBJECT (the parent is free, or the name absent), WB_WRONG_KIND (the parent is
  * a file), WB_NOT_EMPTY, WB_LOG_FULL, WB_SPENT.
@@ -316,17 +324,18 @@ struct wb_value wb_remove(uint64_t n, uint64_t b, uint64_t m, const uint8_t *ser
                           uint64_t program, uint64_t parent, const uint8_t *name, uint64_t name_length);
 
 /*
- * Gives an object another name, and a file another parent too if wanted. An object that already has the second name is
- * displaced and becomes free: a file by a file, an empty directory by a directory. Renaming to the same name changes
- * nothing in the view, but is an operation as any other.
+ * Gives an object another name, and a file another parent too if wanted. The second name is stored as typed. Another object that
+ * already has it, in whatever spelling, is displaced and becomes free: a file by a file, an empty directory by a directory. A
+ * rename that changes only the case of the object's own name displaces nothing, and changes the stored spelling. In the same
+ * parent only the stored spelling itself changes nothing in the view. Each is an operation as any other.
  *   server          read
  *   view            the object is renamed, a displaced one freed
  *   log             dependence on object, both parents and a displaced object is noted; the operation is put into a slot
  *   program         the program that issues the operation
  *   parent          the directory that the object is in
- *   name            read: its name there
+ *   name            read: its name there, in whatever spelling
  *   second_parent   the directory that it comes into; for a directory the same as parent
- *   second_name     read: its name there
+ *   second_name     read: its name there, stored as typed
  * Answers in value the sequence number. Refused with, in this order: WB_WRONG_BUFFER, WB_DAMAGED, WB_BAD_PROGRAM, WB_MARKED,
  * WB_BAD_NAME (either name), WB_LONG_NAME (either name), WB_BAD_NUMBER (either parent), WB_NO_OBJECT (either parent is free, or
  * the first is a directory without the name), WB_WRONG_KIND (either parent is a file, a directory would leave its parent, or

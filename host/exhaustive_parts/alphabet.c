@@ -1,21 +1,24 @@
 #include "alphabet.h"
 #include <string.h>
+#include "spelling.h"
 
-/* Two renames of each object: to a name that mostly is free, and onto one that another may have. Overwrites of object 1 with and
- * without a common byte. Writes across the end; others go across it too, where a file is just short enough. */
+/* Two renames of each object. Those to "aN" and "Do" change only the case where objects 1 and 3 have their first names; the others
+ * go onto a name that another may have, perhaps in another spelling. Object 2 is removed, and in one rename found, by another
+ * spelling. Overwrites of object 1 with and without a common byte. Writes across the end; others go across it too, where a file is
+ * just short enough. */
 const struct letter alphabet[] = {
-    {.kind = CREATE_FILE, .object = 1, .parent = 0, .name = "a"},
-    {.kind = CREATE_FILE, .object = 2, .parent = 0, .name = "b"},
-    {.kind = CREATE_FILE, .object = 2, .parent = 3, .name = "a"},
-    {.kind = CREATE_FILE, .object = 3, .parent = 0, .name = "d"},
-    {.kind = MAKE_DIRECTORY, .object = 2, .parent = 0, .name = "b"},
-    {.kind = MAKE_DIRECTORY, .object = 3, .parent = 0, .name = "d"},
-    {.kind = RENAME, .object = 1, .parent = 0, .name = "x"},
-    {.kind = RENAME, .object = 1, .parent = 0, .name = "b"},
-    {.kind = RENAME, .object = 2, .parent = 3, .name = "a"},
-    {.kind = RENAME, .object = 2, .parent = 0, .name = "a"},
-    {.kind = RENAME, .object = 3, .parent = 0, .name = "x"},
-    {.kind = RENAME, .object = 3, .parent = 0, .name = "b"},
+    {.kind = CREATE_FILE, .object = 1, .parent = 0, .name = "an"},
+    {.kind = CREATE_FILE, .object = 2, .parent = 0, .name = "by"},
+    {.kind = CREATE_FILE, .object = 2, .parent = 3, .name = "an"},
+    {.kind = CREATE_FILE, .object = 3, .parent = 0, .name = "do"},
+    {.kind = MAKE_DIRECTORY, .object = 2, .parent = 0, .name = "by"},
+    {.kind = MAKE_DIRECTORY, .object = 3, .parent = 0, .name = "do"},
+    {.kind = RENAME, .object = 1, .parent = 0, .name = "aN"},
+    {.kind = RENAME, .object = 1, .parent = 0, .name = "BY"},
+    {.kind = RENAME, .object = 2, .parent = 3, .name = "an"},
+    {.kind = RENAME, .object = 2, .parent = 0, .name = "an", .other = 1},
+    {.kind = RENAME, .object = 3, .parent = 0, .name = "Do"},
+    {.kind = RENAME, .object = 3, .parent = 0, .name = "by"},
     {.kind = OVERWRITE, .object = 1, .offset = 0, .length = 4},
     {.kind = OVERWRITE, .object = 1, .offset = 4, .length = 4},
     {.kind = OVERWRITE, .object = 1, .offset = 3, .length = 2},
@@ -28,7 +31,7 @@ const struct letter alphabet[] = {
     {.kind = APPEND, .object = 2, .length = 3, .before = 1},
     {.kind = SET_LENGTH, .object = 1, .offset = 6},
     {.kind = REMOVE, .object = 1},
-    {.kind = REMOVE, .object = 2},
+    {.kind = REMOVE, .object = 2, .other = 1},
     {.kind = REMOVE, .object = 3},
     {.kind = FORDER, .list_length = 2, .list = {1, 2}},
     {.kind = FORDER, .list_length = 3, .list = {1, 2, 3}},
@@ -41,12 +44,12 @@ const uint64_t letter_count = sizeof alphabet / sizeof alphabet[0];
 
 const struct start starts[] = {
     {.text = "empty"},
-    {.text = "files 1 and 2", .count = 4, .letters = {FILE_OF_8(1, 0, "a"), FILE_OF_8(2, 0, "b")}},
+    {.text = "files 1 and 2", .count = 4, .letters = {FILE_OF_8(1, 0, "an"), FILE_OF_8(2, 0, "by")}},
     {.text = "directory 3 with file 1 in it, and file 2", .count = 5,
-     .letters = {DIRECTORY(3, "d"), FILE_OF_8(1, 3, "a"), FILE_OF_8(2, 0, "b")}},
-    {.text = "files 1, 2 and 3", .count = 6, .letters = {FILE_OF_8(1, 0, "a"), FILE_OF_8(2, 0, "b"), FILE_OF_8(3, 0, "d")}},
+     .letters = {DIRECTORY(3, "do"), FILE_OF_8(1, 3, "an"), FILE_OF_8(2, 0, "by")}},
+    {.text = "files 1, 2 and 3", .count = 6, .letters = {FILE_OF_8(1, 0, "an"), FILE_OF_8(2, 0, "by"), FILE_OF_8(3, 0, "do")}},
     {.text = "file 1 and directories 2 and 3", .count = 4,
-     .letters = {FILE_OF_8(1, 0, "a"), DIRECTORY(2, "b"), DIRECTORY(3, "d")}},
+     .letters = {FILE_OF_8(1, 0, "an"), DIRECTORY(2, "by"), DIRECTORY(3, "do")}},
 };
 const uint64_t start_count = sizeof starts / sizeof starts[0];
 
@@ -56,12 +59,14 @@ static uint64_t put_text(uint8_t *name, const char *text)
     return strlen(text);
 }
 
-/* Where the object is and what it is called; if it is free, a name that nothing has. */
-static void put_present_name(const struct volume *view, struct operation *operation)
+/* Where the object is and what it is called, perhaps in another spelling; if it is free, a name that nothing has. */
+static void put_present_name(const struct letter *letter, const struct volume *view, struct operation *operation)
 {
     const uint8_t *name = name_at(view, operation->object, &operation->name_length);
+    uint64_t i;
     operation->parent = parent_at(view, operation->object);
-    memcpy(operation->name, name, operation->name_length);
+    for (i = 0; i < operation->name_length; i++)
+        operation->name[i] = letter->other ? other_case(name[i]) : name[i];
     if (kind_at(view, operation->object) == FREE)
         operation->name_length = put_text(operation->name, "gone");
 }
@@ -103,7 +108,7 @@ void spell(const struct letter *letter, const struct volume *view, uint64_t sequ
         put_second_name(letter, view, operation);
         /* fall through */
     case REMOVE:
-        put_present_name(view, operation);
+        put_present_name(letter, view, operation);
         break;
     case OVERWRITE:
     case APPEND:

@@ -5,11 +5,13 @@
 #include "replay.h"
 
 /* A call as chosen before the state is known in which it is made. A file or directory is removed or renamed by the name that it
- * then has, and an append begins at the length that the file then has, or so many bytes before it. */
+ * then has, as stored or in another spelling, and an append begins at the length that the file then has, or so many bytes before
+ * it. */
 struct letter {
     enum kind kind;
     uint64_t object, parent;         /* of a rename the second parent */
     const char *name;                /* of a rename the second name */
+    int other;                       /* of a remove or rename: each letter of the name that it has is given in the other case */
     uint64_t offset, length;         /* of a write; of a set length the offset is the new length */
     uint64_t before;                 /* of an append: with some bytes before the length it is a write across the end */
     uint64_t list_length, list[3];

@@ -53,6 +53,13 @@ struct counts {
                                                * overwrites of a file without and with a common byte */
     uint64_t across, one_slot;                /* writes across the end; those refused with one slot free */
     uint64_t both, overwrite_alone, neither;  /* what was sent of one, over all cuts and fsyncs with too few sends */
+    uint64_t by_other;                        /* removes and renames that found their object by another spelling */
+    uint64_t case_alone, displacing_other;    /* renames that change only the case; that displace the name in another spelling */
+    uint64_t taken_other;                     /* objects not made, since their name was there in another spelling */
+    uint64_t new_spelling, old_spelling;      /* what the server has of a rename that changes only the case, over all cuts and */
+    uint64_t no_spelling;                     /* fsyncs with too few sends: the new spelling, the old one, neither */
+    uint64_t looked;                          /* objects then looked up by another spelling */
+    uint64_t twice;                           /* volumes with two spellings of a name in a directory */
     uint64_t sets, orders, whole, cuts, losses, fsyncs, links, calls;
 };
 extern struct counts counts;

@@ -19,14 +19,6 @@ static struct answered {
 };
 enum { ANSWERS = sizeof answers / sizeof *answers };
 
-/* Whether the call is given n, b and m as they are, and buffers of the lengths that go with them. */
-static int is_usual(const struct call *call)
-{
-    return call->number[N] == present.n && call->number[B] == present.b && call->number[M] == present.m
-        && call->length[SERVER] == present_length(SERVER) && call->length[VIEW] == present_length(VIEW)
-        && call->length[LOG] == present_length(LOG);
-}
-
 struct across across_of(const struct call *call)
 {
     const uint64_t object = call->number[OBJECT], offset = call->number[OFFSET], count = call->length[OWN];

@@ -14,7 +14,7 @@ void text(struct call *call, enum buffer buffer, const void *bytes, uint64_t len
 /* Puts a name into a room of 60 bytes and gives its length. */
 uint64_t a_name(uint8_t *name)
 {
-    static const char *const names[] = {"a", "a", "b", "b", "c", "d", "task", "A", "...", "\xff\x01.",
+    static const char *const names[] = {"a", "a", "a", "b", "b", "c", "Task", "task", "...", "\xff\x01.", "@", "[", "7", "Z\xc0",
         "nnnnnnnnnnnnnnnnnnnnnnnnnnnnnnnnnnnnnnnnnnnnnnnnnnnnnnnnnnnn"};
     const char *const chosen = PICK(names);
     uint64_t length = strlen(chosen);
@@ -22,6 +22,8 @@ uint64_t a_name(uint8_t *name)
     if (present.n > 12 && length < 50)
         for (; length < 6; length++)
             name[length] = (uint8_t)('a' + below(8));
+    if (chance(1, 4))
+        respell(name, length);
     return length;
 }
 
@@ -64,6 +66,19 @@ static void place_for(struct call *call, enum number parent, enum buffer name, u
     text(call, name, object_at(object) + 4, object_at(object)[1]);
 }
 
+/* The text that the call is lent becomes another spelling of it, or a text that nearly is one. */
+static void spell_anew(struct call *call, enum buffer buffer)
+{
+    uint8_t bytes[WB_PATH_BYTES + 80];
+    const uint64_t length = call->length[buffer];
+    memcpy(bytes, copy_of(buffer, length), length);
+    if (chance(1, 3))
+        shift(bytes, length);
+    else
+        respell(bytes, length);
+    text(call, buffer, bytes, length);
+}
+
 /* A buffer to be written: its bytes are the same all over, so that a byte changed too much shows. */
 static void room_for(struct call *call, uint64_t length)
 {
@@ -89,6 +104,8 @@ static void choose_lookup(struct call *call)
     if (at == end)
         path[--at] = '/';
     text(call, OWN, path + at, end - at);
+    if (chance(1, 3))
+        spell_anew(call, OWN);
 }
 
 static void choose_list(struct call *call)
@@ -113,17 +130,24 @@ static void choose_read(struct call *call)
     room_for(call, ONE_OF(some, some, some, rest, rest + 1, rest > 0 ? rest - 1 : 0));
 }
 
+/* Now and then by a name that is there in another spelling, or that nearly is. */
 static void choose_create(struct call *call)
 {
     call->number[PARENT] = mostly(BIT(DIRECTORY));
     call->number[OBJECT] = mostly(BIT(FREE));
     a_name_for(call, OWN);
+    if (chance(1, 6)) {
+        place_for(call, PARENT, OWN, ANY_USED);
+        spell_anew(call, OWN);
+    }
 }
 
-/* Mostly the place of an object of one of these kinds. */
+/* Mostly the place of an object of one of these kinds, often in another spelling. */
 static void choose_place(struct call *call, uint32_t kinds)
 {
     place_for(call, PARENT, OWN, kinds);
+    if (chance(1, 3))
+        spell_anew(call, OWN);
     if (chance(1, 12))
         a_name_for(call, OWN);
     if (chance(1, 12))
@@ -135,7 +159,20 @@ static void choose_remove(struct call *call)
     choose_place(call, ANY_USED);
 }
 
-/* To another name, in the same directory or in any; to the place of another object; or to its own name. */
+/* The second name becomes the first, as it is given or as the object has it. */
+static void name_again(struct call *call)
+{
+    const uint8_t *const name = copy_of(OWN, call->length[OWN]);
+    const uint64_t object = sought(call->number[PARENT], name, call->length[OWN]);
+    call->number[SECOND_PARENT] = call->number[PARENT];
+    if (object < present.n && chance(1, 2))
+        text(call, SECOND_NAME, object_at(object) + 4, object_at(object)[1]);
+    else
+        text(call, SECOND_NAME, name, call->length[OWN]);
+}
+
+/* To another name, in the same directory or in any; to the place of another object; or to its own name. Each often in another
+ * spelling. */
 static void choose_rename(struct call *call)
 {
     const uint32_t kinds = ONE_OF(BIT(FILE_KIND), BIT(FILE_KIND), BIT(DIRECTORY), ANY_USED);
@@ -148,10 +185,10 @@ static void choose_rename(struct call *call)
         a_name_for(call, SECOND_NAME);
     if (sort == 5)
         call->number[SECOND_PARENT] = mostly(BIT(DIRECTORY));
-    if (sort == 6) {
-        call->number[SECOND_PARENT] = call->number[PARENT];
-        text(call, SECOND_NAME, copy_of(OWN, call->length[OWN]), call->length[OWN]);
-    }
+    if (sort == 6)
+        name_again(call);
+    if (chance(1, 3))
+        spell_anew(call, SECOND_NAME);
 }
 
 /* Now and then a write that just meets an overwrite in the log, or just does not. */
@@ -303,13 +340,15 @@ static int useful(enum entry entry)
 }
 
 /* By weight; but a full log is often made less full, losses are often taken, the last two sequence numbers often go to a write,
- * and what is of no use is seldom called. */
+ * with a name twice in a directory all entries come, and what is of no use is seldom called. */
 static enum entry choose_entry(void)
 {
     const uint64_t used = slots_used(), lost = slots_lost(), next = next_sequence();
     enum entry entry = weighted();
     if ((next == WIDE - 3 || next == WIDE - 2) && has_object(BIT(FILE_KIND)) && chance(1, 3))
         return WRITE;
+    if (name_twice() != LOG && chance(1, 2))
+        return (enum entry)(MOUNT + below(RENEW - MOUNT + 1));
     if (lost > 0 && chance(1, used == present.m ? 3 : 12))
         return (enum entry)ONE_OF(TAKE, TAKE, TAKE, RENEW);
     if (used > lost && chance(1, used == present.m ? 3 : 12))

@@ -11,6 +11,12 @@ struct moment {
 static struct moment sound[MOMENTS], before;
 static uint64_t undo_in; /* calls until the last change is undone, or left so */
 static uint64_t damaged_calls;
+static enum buffer twice = LOG;
+
+enum buffer name_twice(void)
+{
+    return twice;
+}
 
 static void keep(struct moment *moment)
 {
@@ -40,7 +46,7 @@ static uint8_t *add(uint8_t *at, uint64_t number, int bytes)
     return at + bytes;
 }
 
-/* Parent and name of an object: those that it has in the view, or any. */
+/* Parent and name of an object: those that it has in the view, the name perhaps in another spelling, or any. */
 struct place {
     uint64_t parent, length;
     uint8_t name[WB_NAME_BYTES];
@@ -55,6 +61,8 @@ static struct place place_of(uint64_t object, uint64_t n, int real)
         place.parent = parent_of(object) % n;
         place.length = object_at(object)[1];
         memcpy(place.name, object_at(object) + 4, place.length);
+        if (chance(1, 3))
+            respell(place.name, place.length);
     }
     return place;
 }
@@ -160,6 +168,8 @@ void make_volume(void)
         at[1] = (uint8_t)ONE_OF(2, 2, 2, 59, 60);
         memset(at + 4, 'a' + (int)(object % 16), at[1]);
         at[3 + at[1]] = (uint8_t)('a' + object / 16);
+        if (chance(1, 2))
+            respell(at + 4, at[1]);
         if (at[0] == FILE_KIND) {
             put_number(at + 64, bytes, 4);
             memset(at + 68, (int)below(256), bytes);
@@ -198,8 +208,46 @@ static void damage(void)
     const uint8_t old = bytes[at], two_before = bytes[at < 2 ? at : at - 2], six_before = bytes[at < 6 ? at : at - 6];
     const uint8_t random = (uint8_t)any();
     const uint8_t byte = (uint8_t)ONE_OF(0, 1, 2, 3, 46, 47, 61, 97, 98, 255, random, two_before, six_before, old + 1u, old - 1u,
-                                         old ^ 128u);
+                                         old ^ 128u, old ^ 32u);
     put(buffer, length, at, &byte, 1);
+}
+
+/* Whether the three buffers are well formed: a call then comes as far as to its program. */
+static int is_sound(void)
+{
+    struct call call;
+    struct lent lent[LOG + 1];
+    int buffer;
+    lend_present(&call, RENEW);
+    for (buffer = SERVER; buffer <= LOG; buffer++)
+        lent[buffer] = lend(&call, (enum buffer)buffer, SECOND);
+    return second_renew(present.n, present.b, present.m, lent[SERVER].read, lent[SERVER].length, lent[VIEW].read,
+                        lent[VIEW].length, lent[LOG].write, lent[LOG].length, WB_PROGRAMS).returned == WB_BAD_PROGRAM;
+}
+
+/* Gives an entry of the server volume or the view the name of another in its directory, in another spelling. All else stays as it
+ * is; nothing is done where the form is broken, no directory has two entries, or the name has no letter. */
+static void spell_twice(void)
+{
+    const enum buffer volume = chance(1, 2) ? SERVER : VIEW;
+    const uint64_t first = 1 + below(present.n - 1), from = below(present.n);
+    const uint8_t *const stored = entry_at(volume, first);
+    uint8_t name[1 + WB_NAME_BYTES] = {0};
+    uint64_t i;
+    if (!is_sound() || stored[0] == FREE)
+        return;
+    name[0] = stored[1];
+    memcpy(name + 1, stored + 4, stored[1]);
+    respell(name + 1, name[0]);
+    for (i = from; i < from + present.n && twice == LOG && memcmp(name + 1, stored + 4, name[0]) != 0; i++) {
+        const uint64_t second = i % present.n;
+        const uint8_t *const other = entry_at(volume, second);
+        if (second == 0 || second == first || other[0] == FREE || memcmp(other + 2, stored + 2, 2) != 0)
+            continue;
+        put(volume, present_length(volume), second * ENTRY_BYTES + 1, name, 1);
+        put(volume, present_length(volume), second * ENTRY_BYTES + 4, name + 1, WB_NAME_BYTES);
+        twice = volume;
+    }
 }
 
 /* The next sequence number comes near its end; the log stays well formed. */
@@ -215,14 +263,17 @@ void disturb(void)
 {
     const uint64_t sort = below(1200), which = below(MOMENTS);
     if (undo_in > 0) {
-        if (--undo_in == 0 && chance(7, 8))
+        if (--undo_in > 0)
+            return;
+        twice = LOG;
+        if (chance(7, 8))
             restore(&before, ALL_THREE);
         return;
     }
-    if (sort >= 42)
+    if (sort >= 50)
         return;
     keep(&before);
-    undo_in = sort < 24 ? 1 + below(5) : 10 + below(30);
+    undo_in = sort < 24 || sort >= 42 ? 1 + below(5) : 10 + below(30);
     if (sort < 24)
         do
             damage();
@@ -231,8 +282,10 @@ void disturb(void)
         near_the_end();
     else if (sort < 32)
         restore(&sound[which], ONE_OF(BIT(SERVER), BIT(VIEW), BIT(LOG), BIT(LOG), BIT(SERVER) | BIT(VIEW), ALL_THREE));
-    else
+    else if (sort < 42)
         make_log();
+    else
+        spell_twice();
 }
 
 /* Keeps a moment now and then when the form is good; goes back to one when it has been broken for long. */
@@ -253,6 +306,7 @@ void begin_moments(void)
 {
     int i;
     undo_in = damaged_calls = 0;
+    twice = LOG;
     for (i = 0; i < MOMENTS; i++)
         keep(&sound[i]);
 }

@@ -1,6 +1,6 @@
 /* What guard and its parts share: guard.c makes the calls and compares, memory.c lends the buffers, state.c reads what
  * they hold, calls.c chooses sensible calls, wild.c makes arguments wild, disturb.c changes the buffers, across.c counts the
- * answers to writes across the end of a file. */
+ * answers to writes across the end of a file, spelling.c spells names in other ways and counts the answers to them. */
 #ifndef GUARD_H
 #define GUARD_H
 
@@ -86,6 +86,8 @@ enum kind { FREE, FILE_KIND, DIRECTORY };
 #define SLOT_BYTES 1048
 #define LOG_HEAD 8
 uint64_t present_length(enum buffer buffer);
+int is_usual(const struct call *call); /* it is given n, b and m as they are, and buffers of the lengths that go with them */
+const uint8_t *entry_at(enum buffer volume, uint64_t object);
 const uint8_t *object_at(uint64_t object); /* an entry of the view */
 const uint8_t *slot_at(uint64_t slot);
 uint64_t parent_of(uint64_t object);
@@ -119,7 +121,31 @@ struct across across_of(const struct call *call);
 void count_across(struct across across, uint64_t returned);
 unsigned say_across(void); /* prints how often each answer came, and gives how many never did */
 
+/* ---- Names that differ in A to Z against a to z, which are the same, and names that nearly do, which are not ---- */
+/* The object of the view that a name leads to, in whatever spelling; n if there is none. */
+uint64_t sought(uint64_t directory, const uint8_t *name, uint64_t length);
+void respell(uint8_t *text, uint64_t length); /* the case of some letters changes */
+void shift(uint8_t *text, uint64_t length);   /* a byte changes by 32, mostly to one that is another */
+enum spelling {
+    FOUND,              /* lookup, remove, rename, push: an object is found by another spelling */
+    THERE,              /* create, mkdir: the name is there in another spelling, and the number is free */
+    CASE_OF_FILE,       /* rename: only the case of the stored name changes */
+    CASE_OF_DIRECTORY,  /* the same of a directory with children */
+    STORED,             /* rename: found by another spelling, to the stored one, which changes nothing */
+    DISPLACED           /* rename: onto an object that has the second name in another spelling */
+};
+struct spelt {
+    uint32_t is;        /* bits of enum spelling, as far as names and the view tell, or of a push the server volume */
+    int made;           /* create, mkdir, rename: the new name is absent, and one is there that differs in such a pair of bytes */
+    int not_found;      /* lookup, remove: the same of the name sought */
+    enum buffer twice;  /* the volume in which two spellings of a name stand in one directory; LOG if there is none */
+};
+struct spelt spelt_of(const struct call *call);
+void count_spelt(struct spelt spelt, const struct call *call, uint64_t returned);
+unsigned say_spelt(void); /* prints how often each answer came, and gives how many never did */
+
 /* ---- Changing the buffers between calls ---- */
+enum buffer name_twice(void); /* the volume that was changed so that two spellings of a name are in one directory; LOG if none was */
 void make_record(uint8_t *record, uint64_t sequence, uint64_t n, uint64_t longest);
 void make_volume(void);   /* a server volume with content */
 void begin_moments(void); /* forgets what was before */

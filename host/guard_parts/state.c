@@ -30,9 +30,21 @@ uint64_t present_length(enum buffer buffer)
     return buffer == LOG ? WB_LOG_BYTES(present.m) : WB_VOLUME_BYTES(present.n, present.b);
 }
 
+int is_usual(const struct call *call)
+{
+    return call->number[N] == present.n && call->number[B] == present.b && call->number[M] == present.m
+        && call->length[SERVER] == present_length(SERVER) && call->length[VIEW] == present_length(VIEW)
+        && call->length[LOG] == present_length(LOG);
+}
+
+const uint8_t *entry_at(enum buffer volume, uint64_t object)
+{
+    return copy_of(volume, present_length(volume)) + object * ENTRY_BYTES;
+}
+
 const uint8_t *object_at(uint64_t object)
 {
-    return copy_of(VIEW, present_length(VIEW)) + object * ENTRY_BYTES;
+    return entry_at(VIEW, object);
 }
 
 const uint8_t *slot_at(uint64_t slot)

@@ -32,14 +32,29 @@ static uint64_t try_long_name(struct host *host, struct pupil *pupil)
     return returned;
 }
 
+/* Prints a line on an object that was found by another spelling of its path. */
+static void say_found(const struct host *host, uint64_t program, const struct path *path, uint64_t object)
+{
+    struct path stored = path_of(host, object);
+    printf("%s looks for \"", who(program));
+    print_name(stdout, path->bytes, path->length);
+    printf("\" and finds \"");
+    print_name(stdout, stored.bytes, stored.length);
+    printf("\".\n");
+}
+
 /* Looks for a file, or for a name that may be absent, in its folder or wrongly in the file itself. */
 static uint64_t look(struct host *host, struct pupil *pupil)
 {
-    uint64_t object = pick_to_see(host, pupil), found;
+    uint64_t object = pick_to_see(host, pupil), found, returned, otherwise = host->looked_otherwise;
     struct path path = path_of(host, object);
     if (one_in(&host->chance, 6))
         path = path_in(host, object && one_in(&host->chance, 4) ? object : pupil->folder, file_name(&host->chance));
-    return do_lookup(host, pupil->program, &path, &found);
+    path = typed_path(host, path);
+    returned = do_lookup(host, pupil->program, &path, &found);
+    if (host->looked_otherwise > otherwise && first_time(host, FOUND_OTHERWISE))
+        say_found(host, pupil->program, &path, found);
+    return returned;
 }
 
 static uint64_t list_folder(struct host *host, struct pupil *pupil)

@@ -89,6 +89,20 @@ static void print_across(const struct host *host, const struct burst *burst)
                (unsigned long)(count - whole - halves));
 }
 
+/* What became of the renames that change only the case and waited; nothing is printed where there was none. */
+static void print_case(const struct host *host, const struct burst *burst)
+{
+    uint64_t i, count = 0, sent = 0;
+    for (i = 0; i < burst->count; i++) {
+        const struct issued *issued = issued_as(host, burst->sequences[i]);
+        count += (uint64_t)case_alone(issued);
+        sent += case_alone(issued) && issued->state == SENT;
+    }
+    if (count > 0)
+        printf("  %lu rename%s that change%s only the case: %lu sent, %lu lost.\n", (unsigned long)count, plural(count),
+               count == 1 ? "s" : "", (unsigned long)sent, (unsigned long)(count - sent));
+}
+
 static void print_lost(const struct host *host, const struct burst *burst, uint64_t class_set)
 {
     uint64_t i, losers = 0;
@@ -97,6 +111,7 @@ static void print_lost(const struct host *host, const struct burst *burst, uint6
     printf("  %lu operation%s waited: %lu still sent, %lu lost.\n", (unsigned long)burst->count, plural(burst->count),
            (unsigned long)(burst->count - host->lost_count), (unsigned long)host->lost_count);
     print_across(host, burst);
+    print_case(host, burst);
     print_programs(host, "  lost, by program:", losers, 1);
     print_programs(host, "  marked:          ", host->marked, 0);
     print_programs(host, "  not marked:      ", class_set & ~host->marked, 0);

@@ -84,6 +84,13 @@ static uint64_t finish(struct host *host, const struct operation *operation, str
     return wanted;
 }
 
+/* Whether the name leads to an object of the directory, which has it in another spelling. */
+static int is_there_otherwise(const struct host *host, uint64_t parent, struct name name)
+{
+    uint64_t there = sought(&host->own, parent, name.bytes, name.length);
+    return there != host->n && spelt_otherwise(host, there, name.bytes, name.length);
+}
+
 uint64_t do_create(struct host *host, uint64_t program, enum kind kind, uint64_t parent, struct name name, uint64_t object)
 {
     struct operation operation = fresh(host, program, kind);
@@ -93,6 +100,7 @@ uint64_t do_create(struct host *host, uint64_t program, enum kind kind, uint64_t
     operation.parent = parent;
     put_name(operation.name, &operation.name_length, name);
     wanted = expected(host, &operation, name.length);
+    host->taken_otherwise += wanted == WB_TAKEN && is_there_otherwise(host, parent, name);
     if (kind == CREATE_FILE)
         CALL(host, ENTRY_CREATE, answer, wb_create(LENT(host), program, parent, name.bytes, name.length, object));
     else

@@ -49,6 +49,17 @@ static void same_volume(const char *what, const struct volume *got, const struct
     fault("%s differs from the host's replay", what);
 }
 
+/* No two names of a directory are the same: each leads to its own object. */
+static void different_names(const char *what, const struct volume *volume)
+{
+    uint64_t object, length;
+    for (object = 1; object < volume->n; object++) {
+        const uint8_t *name = name_at(volume, object, &length);
+        if (kind_at(volume, object) != FREE && sought(volume, parent_at(volume, object), name, length) != object)
+            fault("%s: another object of the directory has the name of object %d", what, (int)object);
+    }
+}
+
 static void replay_sent(struct host *host, uint64_t sequence)
 {
     const struct issued *issued = issued_as(host, sequence);
@@ -66,6 +77,7 @@ void compare_server(struct host *host)
         if (issued_as(host, sequence)->state != FETCHED)
             replay_sent(host, sequence);
     same_volume("the server volume", &host->server, &host->replayed);
+    different_names("the server volume", &host->server);
 }
 
 void compare_view(const struct host *host) { same_volume("the view", &host->view, &host->own); }

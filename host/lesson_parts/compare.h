@@ -6,7 +6,7 @@
 
 /* Replays, on the server volume as mounted, every accepted operation that was not fetched as a loss. Nothing waits then, so
  * that these are the ones sent. Ends with 1 where one does not apply, where one is the append of a write across the end whose
- * overwrite was lost, or where the server volume is not the result. */
+ * overwrite was lost, where the server volume is not the result, or where it has two names in a directory that are the same. */
 void compare_server(struct host *host);
 
 /* Ends with 1 where the view lent is not the host's own. */

@@ -2,13 +2,25 @@
 
 #define LONG_FILE (16 * WB_BLOCK_BYTES)
 
+/* A pupil who does not look what is there asks for a file that is there, in another spelling, and is refused. */
+static uint64_t create_again(struct host *host, struct pupil *pupil, uint64_t there, uint64_t object)
+{
+    struct name name = respelt(host, name_of(host, there));
+    uint64_t returned = do_create(host, pupil->program, CREATE_FILE, parent_at(&host->own, there), name, object);
+    if (first_time(host, TAKEN_OTHERWISE))
+        say_name(pupil->program, name, "it is there in another spelling; ", wb_text(returned));
+    return returned;
+}
+
 /* A pupil without a free number removes a file first. */
 uint64_t create_file(struct host *host, struct pupil *pupil)
 {
-    uint64_t returned, object = own_number(host, pupil->program);
-    struct name name = file_name(&host->chance);
+    uint64_t returned, object = own_number(host, pupil->program), there = careless(host, 10) ? pick(host, pupil, work_file) : 0;
+    struct name name = typed(host, file_name(&host->chance));
     if (object == host->n)
         return remove_file(host, pupil);
+    if (there != 0)
+        return create_again(host, pupil, there, object);
     returned = do_create(host, pupil->program, CREATE_FILE, pick_place(host, pupil), name, object);
     if (returned == WB_ACCEPTED && name.length == WB_NAME_BYTES && first_time(host, FULL_NAME))
         say_name(pupil->program, name, "a name of 60 bytes passes", "");
@@ -102,8 +114,9 @@ uint64_t begin_save(struct host *host, struct pupil *pupil)
 /* The rename displaces the old file. */
 static uint64_t take_place(struct host *host, struct pupil *pupil)
 {
-    uint64_t returned = do_rename(host, pupil->program, parent_at(&host->own, pupil->fresh), name_of(host, pupil->fresh),
-                                  parent_at(&host->own, pupil->old), name_of(host, pupil->old));
+    struct name first = typed(host, name_of(host, pupil->fresh)), second = typed(host, name_of(host, pupil->old));
+    uint64_t returned = do_rename(host, pupil->program, parent_at(&host->own, pupil->fresh), first,
+                                  parent_at(&host->own, pupil->old), second);
     if (returned != WB_LOG_FULL)
         pupil->saving = NOT_SAVING;
     return returned;

@@ -4,7 +4,7 @@ static uint64_t remove_object(struct host *host, struct pupil *pupil, uint64_t o
 {
     if (object == 0)
         return WB_ACCEPTED;
-    return do_remove(host, pupil->program, parent_at(&host->own, object), name_of(host, object));
+    return do_remove(host, pupil->program, parent_at(&host->own, object), typed(host, name_of(host, object)));
 }
 
 uint64_t remove_file(struct host *host, struct pupil *pupil)
@@ -29,20 +29,39 @@ uint64_t make_subfolder(struct host *host, struct pupil *pupil)
 uint64_t move_file(struct host *host, struct pupil *pupil)
 {
     uint64_t object = pick(host, pupil, own_file), parent = parent_at(&host->own, object);
+    struct name first, second;
     if (object == 0)
         return create_file(host, pupil);
-    return do_rename(host, pupil->program, parent, name_of(host, object), parent == pupil->shared ? pupil->folder : pupil->shared,
-                     name_of(host, object));
+    first = typed(host, name_of(host, object));
+    second = typed(host, name_of(host, object));
+    return do_rename(host, pupil->program, parent, first, parent == pupil->shared ? pupil->folder : pupil->shared, second);
 }
 
-/* In its place, at times to the name that it has already. */
+/* Prints a line on the rename issued last, which changed only the case. */
+static void say_case(const struct host *host)
+{
+    const struct issued *last = issued_as(host, host->issued_count);
+    printf("%s renames \"", who(last->operation.program));
+    print_name(stdout, last->called.bytes, last->called.length);
+    printf("\" to \"");
+    print_name(stdout, last->operation.second_name, last->operation.second_name_length);
+    printf("\": only the case changes, and nothing is displaced.\n");
+}
+
+/* In its place, at times to the name that it has already, or to another spelling of it. */
 static uint64_t rename_object(struct host *host, struct pupil *pupil, uint64_t object, struct name name)
 {
-    uint64_t parent = parent_at(&host->own, object);
+    uint64_t returned, parent = parent_at(&host->own, object);
+    struct name first, second;
     if (object == 0)
         return create_file(host, pupil);
-    return do_rename(host, pupil->program, parent, name_of(host, object), parent,
-                     one_in(&host->chance, 10) ? name_of(host, object) : name);
+    first = typed(host, name_of(host, object));
+    second = one_in(&host->chance, 10) ? name_of(host, object) : name;
+    second = careless(host, 4) ? respelt(host, name_of(host, object)) : typed(host, second);
+    returned = do_rename(host, pupil->program, parent, first, parent, second);
+    if (returned == WB_ACCEPTED && case_alone(issued_as(host, host->issued_count)) && first_time(host, CASE_ALONE))
+        say_case(host);
+    return returned;
 }
 
 uint64_t rename_file(struct host *host, struct pupil *pupil)

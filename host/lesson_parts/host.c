@@ -1,5 +1,6 @@
 #include "host.h"
 #include "progress.h"
+#include "spelling.h"
 #include <errno.h>
 #include <fcntl.h>
 #include <stdarg.h>
@@ -88,6 +89,7 @@ void open_host(struct host *host, const struct options *options)
     host->volume_length = WB_VOLUME_BYTES(host->n, host->b);
     host->log_length = WB_LOG_BYTES(host->m);
     host->chance.state = options->seed;
+    host->typing.state = ~options->seed;
     host->server_file = options->server;
     host->measure.started = time_now();
     host->view = fresh_volume(host);
@@ -131,6 +133,23 @@ struct name name_of(const struct host *host, uint64_t object)
     const uint8_t *bytes = name_at(&host->own, object, &name.length);
     memcpy(name.bytes, bytes, name.length);
     return name;
+}
+
+int spelt_otherwise(const struct host *host, uint64_t object, const uint8_t *name, uint64_t length)
+{
+    uint64_t stored_length;
+    const uint8_t *stored = name_at(&host->own, object, &stored_length);
+    return !same_spelling(stored, stored_length, name, length);
+}
+
+int found_otherwise(const struct issued *issued)
+{
+    return by_other_spelling(&issued->operation, issued->called.bytes, issued->called.length);
+}
+
+int case_alone(const struct issued *issued)
+{
+    return changes_case_alone(&issued->operation, issued->called.bytes, issued->called.length);
 }
 
 void add_waiting(struct host *host, const struct operation *operation)

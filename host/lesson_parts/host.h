@@ -18,7 +18,8 @@ struct name {
 enum state { WAITING, SENT, LOST, FETCHED };
 
 /* What is said when it happens for the first time. */
-enum event { FULL_NAME, LONG_NAME, LOG_FULL, NOT_FIRST, ACROSS_END, ONE_SLOT, EVENTS };
+enum event { FULL_NAME, LONG_NAME, LOG_FULL, NOT_FIRST, ACROSS_END, ONE_SLOT, FOUND_OTHERWISE, CASE_ALONE, TAKEN_OTHERWISE,
+    EVENTS };
 
 struct issued {
     struct operation operation;
@@ -44,10 +45,12 @@ struct host {
     uint64_t marked;                 /* the programs that should be marked, bit p for program p */
     uint64_t sent_count, fetched_count, most_waiting;
     uint64_t pushed, overtaking;     /* sent by push; of these, sent while an earlier one waited */
+    uint64_t looked_otherwise;       /* lookups that found an object by another spelling of its path */
+    uint64_t taken_otherwise;        /* objects not made, since their name was there in another spelling */
     const char *server_file;         /* or NULL */
     int went_on;                     /* the file was there already */
     int happened[EVENTS];
-    struct chance chance;
+    struct chance chance, typing;    /* how names are typed has a chance of its own, which changes nothing else */
     struct measure measure;
 };
 
@@ -84,8 +87,13 @@ void note_dependence(struct host *host, uint64_t program, uint8_t objects[WB_MOS
 /* Chooses the waiting operations that an fsync of the object needs; tells how many. */
 uint64_t choose_needed(const struct host *host, uint64_t object, uint8_t chosen[WB_MOST_SLOTS]);
 
-/* The name of an object by the host's own view. */
+/* The name of an object by the host's own view, and whether a name that leads to it is spelt in another way. */
 struct name name_of(const struct host *host, uint64_t object);
+int spelt_otherwise(const struct host *host, uint64_t object, const uint8_t *name, uint64_t length);
+
+/* Whether an operation found its object by another spelling, and whether it is a rename that changes only the case. */
+int found_otherwise(const struct issued *issued);
+int case_alone(const struct issued *issued);
 
 /* Whether it happens for the first time. */
 int first_time(struct host *host, enum event event);

@@ -1,5 +1,8 @@
 #include "naming.h"
 #include <string.h>
+#include "spelling.h"
+
+#define TYPED_WITH_CARE 50 /* the first operations of a lesson */
 
 static const char being_saved[] = "being saved";
 
@@ -84,6 +87,40 @@ struct name subfolder_name(struct chance *chance) { return numbered("box", 1 + b
 struct name save_name(struct chance *chance) { return numbered(being_saved, 1 + below(chance, 99)); }
 int is_save_name(struct name name) { return memcmp(name.bytes, being_saved, sizeof being_saved - 1) == 0; }
 struct name long_name(struct chance *chance) { return stretched(short_name(chance), WB_NAME_BYTES + 1); }
+
+/* Each letter in the other case, as of one who left the capitals on, or only the first one, or only the last. */
+static void change_case(struct chance *chance, uint8_t *bytes, uint64_t length)
+{
+    uint64_t i, first = length, last = length, habit = below(chance, 3);
+    for (i = 0; i < length; i++)
+        if (other_case(bytes[i]) != bytes[i]) {
+            first = first < i ? first : i;
+            last = i;
+        }
+    for (i = 0; i < length; i++)
+        if (habit == 0 || i == (habit == 1 ? first : last))
+            bytes[i] = other_case(bytes[i]);
+}
+
+int careless(struct host *host, uint64_t times)
+{
+    return host->issued_count >= TYPED_WITH_CARE && one_in(&host->typing, times);
+}
+
+struct name respelt(struct host *host, struct name name)
+{
+    change_case(&host->typing, name.bytes, name.length);
+    return name;
+}
+
+struct name typed(struct host *host, struct name name) { return careless(host, 5) ? respelt(host, name) : name; }
+
+struct path typed_path(struct host *host, struct path path)
+{
+    if (careless(host, 5))
+        change_case(&host->typing, path.bytes, path.length);
+    return path;
+}
 
 static void add_component(struct path *path, struct name name)
 {

@@ -32,8 +32,18 @@ int is_save_name(struct name name);
 /* A name that is longer by one byte than a name may be. */
 struct name long_name(struct chance *chance);
 
+/* Whether a pupil does not mind the spelling of a name, once in so many times. In the first operations of a lesson all do mind. */
+int careless(struct host *host, uint64_t times);
+
+/* A name in another spelling, and a name as a pupil types it: mostly as it is, now and then in another spelling. */
+struct name respelt(struct host *host, struct name name);
+struct name typed(struct host *host, struct name name);
+
 /* The path of an object by the host's own view, and the path of a name in a directory. */
 struct path path_of(const struct host *host, uint64_t object);
 struct path path_in(const struct host *host, uint64_t directory, struct name name);
+
+/* A path as a pupil types it. */
+struct path typed_path(struct host *host, struct path path);
 
 #endif

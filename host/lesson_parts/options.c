@@ -24,6 +24,8 @@ static const char *const help =
 "How to read the output:\n"
 "  An operation has a sequence number, given as it is issued; it waits until the link has sent it. A write across the end of a\n"
 "  file is two: an overwrite of the bytes up to the end, then an append. A broken link may lose the append alone.\n"
+"  Names that differ only in A to Z against a to z are the same name. After the first 50 operations pupils at times type a name\n"
+"  in another spelling; a loss record has it as typed.\n"
 "  At each broken link: how many operations are lost, which programs are marked (each that issued a lost one or had seen what\n"
 "  it did), and for each marked program the loss records that it fetches, a line each: sequence number, program, kind, object.\n"
 "  `object 37, \"essay 2\" in 5` is object 37 with this name in directory 5; a name in brackets is what the object was called.\n"

@@ -32,7 +32,7 @@ uint64_t own_number(const struct host *host, uint64_t program)
 /* Finds a directory of the root, or makes it; tells the returned number. */
 static uint64_t find_or_make(struct host *host, struct class *class, uint64_t program, struct name name, uint64_t *object)
 {
-    struct path path = path_in(host, 0, name);
+    struct path path = typed_path(host, path_in(host, 0, name));
     uint64_t returned = do_lookup(host, program, &path, object);
     class->looked++;
     if (returned == WB_ACCEPTED && kind_at(&host->own, *object) != DIRECTORY_ENTRY)

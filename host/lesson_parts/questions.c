@@ -13,11 +13,13 @@ static void note_object(struct host *host, uint64_t program, uint64_t object)
     note_dependence(host, program, objects);
 }
 
-/* Goes along the path in the host's own view. The objects met are marked as operands. */
-static struct wb_value expected_lookup(const struct host *host, const struct path *path, uint8_t objects[WB_MOST_OBJECTS])
+/* Goes along the path in the host's own view. The objects met are marked as operands; tells too whether one is spelt otherwise. */
+static struct wb_value expected_lookup(const struct host *host, const struct path *path, uint8_t objects[WB_MOST_OBJECTS],
+                                       int *otherwise)
 {
     struct wb_value answer = {WB_ACCEPTED, 0};
     uint64_t at = 1, end;
+    *otherwise = 0;
     objects[0] = 1;
     while (at < path->length && answer.returned == WB_ACCEPTED) {
         for (end = at; end < path->length && path->bytes[end] != '/'; end++)
@@ -28,8 +30,10 @@ static struct wb_value expected_lookup(const struct host *host, const struct pat
             answer.returned = WB_WRONG_KIND;
         else if ((answer.value = sought(&host->own, answer.value, path->bytes + at, end - at)) == host->n)
             answer.returned = WB_NO_OBJECT;
-        else
+        else {
             objects[answer.value] = 1;
+            *otherwise |= spelt_otherwise(host, answer.value, path->bytes + at, end - at);
+        }
         at = end + 1;
     }
     answer.value = answer.returned == WB_ACCEPTED ? answer.value : 0;
@@ -39,11 +43,13 @@ static struct wb_value expected_lookup(const struct host *host, const struct pat
 uint64_t do_lookup(struct host *host, uint64_t program, const struct path *path, uint64_t *object)
 {
     uint8_t objects[WB_MOST_OBJECTS] = {0};
-    struct wb_value answer, expected = expected_lookup(host, path, objects);
+    int otherwise;
+    struct wb_value answer, expected = expected_lookup(host, path, objects, &otherwise);
     CALL(host, ENTRY_LOOKUP, answer, wb_lookup(LENT(host), program, path->bytes, path->length));
     check_answer("lookup", program, expected.value, answer, expected);
     if (answer.returned == WB_ACCEPTED)
         note_dependence(host, program, objects);
+    host->looked_otherwise += answer.returned == WB_ACCEPTED && otherwise;
     *object = answer.value;
     return answer.returned;
 }

@@ -81,6 +81,24 @@ static void print_across(const struct host *host)
            (unsigned long)count, (unsigned long)halves);
 }
 
+/* How many calls found an object by another spelling, or were refused over one, and how many renames changed only the case. */
+static void print_spellings(const struct host *host)
+{
+    uint64_t i, removes = 0, renames = 0, count = 0, lost = 0;
+    for (i = 0; i < host->issued_count; i++) {
+        const struct issued *issued = host->issued[i];
+        removes += found_otherwise(issued) && issued->operation.kind == REMOVE;
+        renames += found_otherwise(issued) && issued->operation.kind == RENAME;
+        count += (uint64_t)case_alone(issued);
+        lost += case_alone(issued) && issued->state == FETCHED;
+    }
+    printf("  calls that found an object by another spelling: %lu (lookup %lu, remove %lu, rename %lu)\n",
+           (unsigned long)(host->looked_otherwise + removes + renames), (unsigned long)host->looked_otherwise,
+           (unsigned long)removes, (unsigned long)renames);
+    printf("  objects not made, since their name was there in another spelling: %lu\n", (unsigned long)host->taken_otherwise);
+    printf("  renames that changed only the case: %lu, of which %lu were lost\n", (unsigned long)count, (unsigned long)lost);
+}
+
 static uint64_t questions(const struct measure *measure)
 {
     return measure->entries[ENTRY_LOOKUP].calls + measure->entries[ENTRY_LIST].calls + measure->entries[ENTRY_STAT].calls
@@ -95,6 +113,7 @@ void print_summary(const struct host *host, const struct class *class)
            (unsigned long)host->most_waiting);
     print_kinds(host);
     print_across(host);
+    print_spellings(host);
     printf("  sent: %lu, of which %lu by push and %lu by fsync; %lu went before one that was issued earlier\n",
            (unsigned long)host->sent_count, (unsigned long)host->pushed, (unsigned long)(host->sent_count - host->pushed),
            (unsigned long)host->overtaking);

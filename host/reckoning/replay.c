@@ -1,6 +1,7 @@
 #include "replay.h"
 #include <string.h>
 #include "numbers.h"
+#include "spelling.h"
 
 /* The places of an entry's fields. */
 enum { KIND_AT = 0, NAME_LENGTH_AT = 1, PARENT_AT = 2, NAME_AT = 4, LENGTH_AT = 64, DATA_AT = 68 };
@@ -30,11 +31,13 @@ static int is_child(const struct volume *volume, uint64_t object, uint64_t direc
 
 uint64_t sought(const struct volume *volume, uint64_t directory, const uint8_t *name, uint64_t length)
 {
-    uint64_t object;
-    for (object = 1; object < volume->n; object++)
-        if (is_child(volume, object, directory) && entry(volume, object)[NAME_LENGTH_AT] == length
-            && memcmp(entry(volume, object) + NAME_AT, name, length) == 0)
+    uint64_t object, stored_length;
+    const uint8_t *stored;
+    for (object = 1; object < volume->n; object++) {
+        stored = name_at(volume, object, &stored_length);
+        if (is_child(volume, object, directory) && same_name(stored, stored_length, name, length))
             break;
+    }
     return object;
 }
 
@@ -56,7 +59,7 @@ static uint64_t first_sought(const struct volume *volume, const struct operation
 }
 
 /* Both parents are directories, the first name leads to the object, a directory keeps its parent; the second name is absent or the
- * object's own, or leads to the displaced object, of the same kind and without children. */
+ * object's own in whatever spelling, or leads to the displaced object, of the same kind and without children. */
 static int rename_applies(const struct volume *volume, const struct operation *operation)
 {
     uint64_t there, object = operation->object, displaced = operation->displaced;

@@ -21,7 +21,7 @@ uint64_t length_at(const struct volume *volume, uint64_t object); /* of a file, 
 const uint8_t *name_at(const struct volume *volume, uint64_t object, uint64_t *length);
 const uint8_t *data_at(const struct volume *volume, uint64_t object);
 
-/* The object that the name leads to in the directory; n if there is none. */
+/* The object that the name leads to in the directory, in whatever spelling; n if there is none. */
 uint64_t sought(const struct volume *volume, uint64_t directory, const uint8_t *name, uint64_t length);
 
 /* Whether the directory has children. */

@@ -1,7 +1,7 @@
 -- Laws of names (document 01, "Names and paths"): the test of a name says exactly what the document's sentence says, and to be the
 -- same name is to be equal in lower case (document 02, K2), so an equivalence of texts.
 -- Assumes nothing.
-use Prim.Native.Nat.{ℕ, zero, suc, _+_, _≤_, _<_, suc-le-suc}
+use Prim.Native.Nat.{ℕ, zero, suc, _+_, _%_, _≤_, _<_, suc-le-suc}
 use mathlib.Core.Path.{_≡_, refl, sym, ap, ap₂, _∙_}
 use mathlib.Core.Bool.{Bool, true, false, not, _&&_, cond, and-eq-true-iff, and-false, false≢true}
 use mathlib.Core.List.{List, [], _∷_, _++_, map}
@@ -155,6 +155,15 @@ below-lower v h = rw (lt-leb 65 v h)
 pub above-lower : (v : ℕ) → 90 < v → lowerCase v ≡ v
 unfolding lowerCase
 above-lower v h = rw (lt-leb v 90 h, and-false (leb 65 v))
+
+-- A letter's two cases differ by 32, so they have one remainder by 32.
+pub lower-rest : (v : ℕ) → lowerCase v % 32 ≡ v % 32
+unfolding lowerCase
+lower-rest v = go (leb 65 v && leb v 90)
+  where
+    go : (b : Bool) → cond b (v + 32) v % 32 ≡ v % 32
+    go true = omega arith
+    go false = refl
 
 -- Two texts that are the same name are equal in lower case, to the last byte.
 pub same-lower : (s t : List ℕ) → sameName s t ≡ true → map lowerCase s ≡ map lowerCase t

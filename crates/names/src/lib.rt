@@ -331,7 +331,7 @@ pub fn name_text(s: &[u8]) -> NameText
 }
 
 // A byte in lower case: A to Z become a to z, and no other byte changes.
-pub fn lower_case(v: u8) -> u8
+fn lower_case(v: u8) -> u8
     ensures { λ r. ⌜ r ≡ lowerCase v ⌝ }
 {
     if 65 <= v {

@@ -1,21 +1,21 @@
 -- What the loops and tests of the form come to: a walk that stops at the first number that fails a test, numbers that are gathered of
 -- every entry, and two entries that share parent and name. Assumes nothing.
-use Prim.Native.Nat.{ℕ, zero, suc, _+_, _-_, _≤_, _<_}
+use Prim.Native.Nat.{ℕ, zero, suc, _+_, _-_, _%_, _≤_, _<_}
 use native.Mathlib.Omega.{arith}
-use mathlib.Core.Path.{_≡_, refl, sym, ap, _∙_}
-use mathlib.Core.List.{List}
+use mathlib.Core.Path.{_≡_, refl, sym, ap, ap₂, _∙_}
+use mathlib.Core.List.{List, [], _∷_, map}
 use mathlib.Core.Bool.{Bool, true, false, not, _||_, and-false}
 use lib.ListN.{length, getD, set, replicate, List·getD-eq-default}
 use lib.Seq.{getD-set-same, getD-set-other}
 use lib.Dec.{leb, ltb}
 use borrow.Author.Tests.{ltb-true, ltb-false, ne-eqb}
-use Rattle.names.specs.Name.{sameName}
+use Rattle.names.specs.Name.{lowerCase, sameName}
 use Rattle.entry.specs.Entry.{Entry, free, parentOf, nameOf}
 use Rattle.search.specs.Volume.{Volume, entryAt, every, isChild}
 use Rattle.search.specs.Form.{twins}
 use Rattle.search.specs.FormLaws.{every-intro, every-not}
 use Rattle.search.specs.ClimbLaws.{or-right}
-use Rattle.names.specs.NameLaws.{same-lower}
+use Rattle.names.specs.NameLaws.{lower-rest, same-lower}
 use Rattle.twins.specs.Code.Checks.{digestFrom, digest, aloneFrom}
 
 module _ (k n : ℕ) (f : ℕ → Bool) (size : k ≡ n) where
@@ -55,9 +55,14 @@ module _ (f : Entry → ℕ) (v : Volume) (i : ℕ) (l : List ℕ) (inv : Passed
           let k : length v ≤ j = omega arith in
           inv .1 j m ∙ sym z ∙ ap f (sym (List·getD-eq-default v free k))
 
+-- A name's bytes have the remainders by 32 that they have in lower case.
+rests-lower : (s : List ℕ) → map (λ (v : ℕ). v % 32) (map lowerCase s) ≡ map (λ (v : ℕ). v % 32) s
+rests-lower [] = refl
+rests-lower (a ∷ s) = ap₂ (λ (v : ℕ) (r : List ℕ). v ∷ r) (lower-rest a) (rests-lower s)
+
 -- Names that are the same have one digest.
 pub same-digest : (s t : List ℕ) → sameName s t ≡ true → digest s ≡ digest t
-same-digest s t e = ap (digestFrom 0) (same-lower s t e)
+same-digest s t e = ap (digestFrom 0) (sym (rests-lower s) ∙ ap (map (λ (v : ℕ). v % 32)) (same-lower s t e) ∙ rests-lower t)
 
 -- An entry does not share parent and name with one whose name has another digest.
 pub other-name : (v : Volume) (i j : ℕ) → (digest (nameOf (entryAt v i)) ≡ digest (nameOf (entryAt v j)) → ⊥) → false ≡ twins v i j

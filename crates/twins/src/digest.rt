@@ -4,18 +4,18 @@ ghost use mathlib.Core.Path.{_≡_};
 ghost use Rattle.search.specs.Stored.{readVolume};
 ghost use Rattle.search.specs.Code.Lent.{Lent};
 ghost use Rattle.twins.specs.Code.Checks.{digest, Digested};
+use buffer::number::byte_at;
 use entry::field::name;
-use names::lower_case;
 use search::entries::entry;
 
-// The digest of a name, whatever the case of its letters.
+// The digest of a name. A letter's two cases differ by 32, so that both have one remainder by 32.
 fn digest_of(name: &[u8]) -> usize
     ensures { λ r. ⌜ r ≡ digest (now (name .entry)) ⌝ }
 {
     let mut seen = 0;
     let mut i = 0;
     while i < name.len() {
-        seen = seen % 4294967296 * 31 + lower_case(name[i]) as usize;
+        seen = seen % 4294967296 * 31 + byte_at(name, i) % 32;
         i += 1;
     }
     seen

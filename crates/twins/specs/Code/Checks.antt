@@ -5,7 +5,6 @@ use mathlib.Core.List.{List, [], _∷_, map}
 use mathlib.Core.Bool.{Bool, not, _||_}
 use lib.ListN.{length, getD}
 use lib.Dec.{leb}
-use Rattle.names.specs.Name.{lowerCase}
 use Rattle.entry.specs.Entry.{parentOf, nameOf}
 use Rattle.search.specs.Volume.{Volume, entryAt, every}
 use Rattle.search.specs.Form.{twins}
@@ -14,13 +13,14 @@ use Rattle.search.specs.Form.{twins}
 abbrev pub Gathered : Volume → List ℕ → Type 0
 Gathered v l = (i : ℕ) → getD l i 0 ≡ parentOf (entryAt v i)
 
--- a number for each name, whatever the case of its letters, and a list of those of every entry's name
+-- a number for each name, and a list of those of every entry's name. Of a byte only its remainder by 32 counts, which is one for a letter's
+-- two cases (document 02, K2)
 unfoldable pub digestFrom : ℕ → List ℕ → ℕ
 digestFrom m [] = m
 digestFrom m (x ∷ xs) = digestFrom (m % 4294967296 * 31 + x) xs
 
 abbrev pub digest : List ℕ → ℕ
-digest s = digestFrom 0 (map lowerCase s)
+digest s = digestFrom 0 (map (λ v. v % 32) s)
 
 abbrev pub Digested : Volume → List ℕ → Type 0
 Digested v l = (i : ℕ) → getD l i 0 ≡ digest (nameOf (entryAt v i))

@@ -5,23 +5,21 @@ use mathlib.Core.List.{List, map}
 use mathlib.Core.Path.{_≡_, refl}
 use native.Mathlib.Numerals.{add-one}
 use native.Mathlib.Omega.{arith}
-use borrow.Author.Needs.{needs}
 use lib.ListN.{length, getD, drop, drop-of-length-le}
 use lib.Seq.{drop-cons}
-use Rattle.names.specs.Name.{lowerCase}
 use Rattle.twins.specs.Code.Checks.{digestFrom, digest}
 use Rattle.twins.proofs.digest.digest_of.Statement.{statement}
 use Rattle.twins.proofs.digest.digest_of.Tie as tie
 
 abbrev Inv-loop : tie.InvT-loop
-Inv-loop name seen₀ i₀ seen i = (i ≤ length name) × (digestFrom seen (map lowerCase (drop i name)) ≡ digest name)
+Inv-loop name seen₀ i₀ seen i = (i ≤ length name) × (digestFrom seen (map (λ v. v % 32) (drop i name)) ≡ digest name)
 
 abbrev μ-loop : tie.MeasureT-loop
 μ-loop name seen₀ i₀ seen i = length name - i
 
 -- a turn, and the loop's end, at the place i
-module _ (s : List ℕ) (i m : ℕ) (inv : digestFrom m (map lowerCase (drop i s)) ≡ digest s) where
-  step : i < length s → (x : ℕ) → x ≡ lowerCase (getD s i 0) → digestFrom (m % 4294967296 * 31 + x) (map lowerCase (drop (i + 1) s)) ≡ digest s
+module _ (s : List ℕ) (i m : ℕ) (inv : digestFrom m (map (λ v. v % 32) (drop i s)) ≡ digest s) where
+  step : i < length s → (x : ℕ) → x ≡ getD s i 0 → digestFrom (m % 4294967296 * 31 + x % 32) (map (λ v. v % 32) (drop (i + 1) s)) ≡ digest s
   unfolding digestFrom
   step h x e = rw (e, add-one) (rw (drop-cons s i 0 h) at inv)
 
@@ -35,14 +33,8 @@ loop-holds c = (omega arith, refl)
 mul-seen : tie.Need-mul-seen Inv-loop μ-loop
 mul-seen c = omega arith
 
-shared-slice-read-lower-case : tie.Need-shared-slice-read-lower-case Inv-loop μ-loop
-shared-slice-read-lower-case c = omega arith
-
-lower-case-requires : tie.Need-lower-case-requires Inv-loop μ-loop
-lower-case-requires c κs = search needs
-
-cast-seen : tie.Need-cast-seen Inv-loop μ-loop
-cast-seen c = search needs
+byte-at-requires : tie.Need-byte-at-requires Inv-loop μ-loop
+byte-at-requires c κs = omega arith
 
 add-seen : tie.Need-add-seen Inv-loop μ-loop
 add-seen c = omega arith
@@ -55,8 +47,9 @@ loop-less c = omega arith
 
 loop-again : tie.Need-loop-again Inv-loop μ-loop
 loop-again c =
-    let l = c .before .before .before in
-    (omega arith, step (l .before .before .args .name .now) (l .loop .i) (l .loop .seen) (l .loop .inv .1) (omega arith) (c .lower-case .result) (c .lower-case .ensures))
+    let l = c .before .before in
+    let s = l .before .before .args .name .now in
+    (omega arith, step s (l .loop .i) (l .loop .seen) (l .loop .inv .1) (omega arith) (c .byte-at .result) (c .byte-at .ensures .0))
 
 returns : tie.Need-returns Inv-loop μ-loop
 returns c =
@@ -71,9 +64,7 @@ digest-of-spec =
     μ-loop
     loop-holds
     mul-seen
-    shared-slice-read-lower-case
-    lower-case-requires
-    cast-seen
+    byte-at-requires
     add-seen
     add-i
     loop-less
