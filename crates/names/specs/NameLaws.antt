@@ -165,16 +165,6 @@ lower-rest v = go (leb 65 v && leb v 90)
     go true = omega arith
     go false = refl
 
--- Two texts that are the same name are equal in lower case, to the last byte.
-pub same-lower : (s t : List ℕ) → sameName s t ≡ true → map lowerCase s ≡ map lowerCase t
-unfolding sameName
-same-lower [] [] e = refl
-same-lower [] (b ∷ t) e = absurd (false≢true e)
-same-lower (a ∷ s) [] e = absurd (false≢true e)
-same-lower (a ∷ s) (b ∷ t) e =
-    let h = and-eq-true-iff (eqb (lowerCase a) (lowerCase b)) (sameName s t) .0 e in
-    ap₂ (λ (v : ℕ) (r : List ℕ). v ∷ r) (eqb-true (lowerCase a) (lowerCase b) (h .0)) (same-lower s t (h .1))
-
 -- Two texts that are equal in lower case are the same name.
 pub lower-same : (s t : List ℕ) → map lowerCase s ≡ map lowerCase t → sameName s t ≡ true
 unfolding sameName
@@ -184,6 +174,16 @@ lower-same (a ∷ s) [] e = let z = ap length e in absurd (omega arith)
 lower-same (a ∷ s) (b ∷ t) e =
     and-eq-true-iff (eqb (lowerCase a) (lowerCase b)) (sameName s t) .1
     (eq-eqb (lowerCase a) (lowerCase b) (ap (λ (l : List ℕ). getD l 0 0) e), lower-same s t (ap (drop 1) e))
+
+-- Two texts that are the same name are equal in lower case, to the last byte.
+pub same-lower : (s t : List ℕ) → sameName s t ≡ true → map lowerCase s ≡ map lowerCase t
+unfolding sameName
+same-lower [] [] e = refl
+same-lower [] (b ∷ t) e = absurd (false≢true e)
+same-lower (a ∷ s) [] e = absurd (false≢true e)
+same-lower (a ∷ s) (b ∷ t) e =
+    let h = and-eq-true-iff (eqb (lowerCase a) (lowerCase b)) (sameName s t) .0 e in
+    ap₂ (λ (v : ℕ) (r : List ℕ). v ∷ r) (eqb-true (lowerCase a) (lowerCase b) (h .0)) (same-lower s t (h .1))
 
 -- A text is the same name as itself.
 pub same-refl : (s : List ℕ) → sameName s s ≡ true
