@@ -450,6 +450,37 @@ static void names_twice(void)
     VALUE(wb_lookup(LENT, 0, TEXT("/Az/[Z")), WB_ACCEPTED, 2);
 }
 
+/* Each byte as the last of a name, on a new volume: 0 and the slash may stand in no name that a call, a record or a volume has; every
+ * other is stored, and found, as it was given. */
+static void name_bytes(void)
+{
+    uint8_t removed[] = {19, 0, 1, 0, 0, 0, 0, 3, 1, 0, 0, 0, 2, 'n', 0}; /* the record of operation 1, which removes file 1 */
+    uint64_t sequence = 1;
+    int byte;
+    CODE(wb_format(N, B, M, s.at, s.length), WB_ACCEPTED);
+    CODE(wb_mount(LENT), WB_ACCEPTED);
+    for (byte = 0; byte < 256; byte++) {
+        const uint8_t path[] = {'/', 'n', (uint8_t)byte}, *const name = path + 1;
+        const int permitted = byte != 0 && byte != '/';
+        removed[14] = name[1];
+        CODE(wb_record(0, removed, sizeof removed), permitted ? WB_ACCEPTED : WB_BAD_RECORD);
+        put_entry(v, 1, 1, 0, (const char *)name);
+        CODE(wb_renew(LENT, 0), permitted ? WB_ACCEPTED : WB_DAMAGED);
+        memset(v.at + ENTRY, 0, ENTRY);
+        if (!permitted) {
+            VALUE(wb_create(LENT, 0, 0, name, 2, 1), WB_BAD_NAME, 0);
+            VALUE(wb_remove(LENT, 0, 0, name, 2), WB_BAD_NAME, 0);
+            VALUE(wb_lookup(LENT, 0, path, 3), byte == 0 ? WB_BAD_NAME : WB_NO_OBJECT, 0);
+            continue;
+        }
+        VALUE(wb_create(LENT, 0, 0, name, 2, 1), WB_ACCEPTED, sequence++);
+        SAME(v.at + ENTRY + 4, name, 2);
+        VALUE(wb_lookup(LENT, 0, path, 3), WB_ACCEPTED, 1);
+        VALUE(wb_remove(LENT, 0, 0, name, 2), WB_ACCEPTED, sequence++);
+        VALUE(wb_fsync(LENT, 0, 0, 2), WB_ACCEPTED, 2);
+    }
+}
+
 int main(void)
 {
     uint8_t guard[GUARD], root[VOLUME] = {2};
@@ -473,6 +504,7 @@ int main(void)
     lost_spellings();
     different_names();
     names_twice();
+    name_bytes();
     for (i = 0; i < 4; i++) {
         SAME(areas[i], guard, GUARD);
         SAME(areas[i] + sizes[i] - GUARD, guard, GUARD);

@@ -233,7 +233,7 @@ impl Word<'_> {
 }
 
 /// The server volume and the view, where the lengths are right.
-fn volumes(player: &Player) -> Option<(Volume<&[u8]>, Volume<&[u8]>)> {
+pub fn volumes(player: &Player) -> Option<(Volume<&[u8]>, Volume<&[u8]>)> {
     let [n, b, m] = player.given;
     let geometry = Geometry::new(n, b, m)?;
     let whole = geometry.volume_length();

@@ -1,17 +1,19 @@
 //! Measures what a corpus of scripts reaches: every call accepted and refused with each number that it can give,
-//! every kind of pair in the precedence rule, writes across the end of a file, and names in another spelling. Give it
-//! script files; it prints a table, then what is missing, and ends with 1 if anything is.
+//! every kind of pair in the precedence rule, writes across the end of a file, names in another spelling, and every
+//! byte in a name. Give it script files; it prints a table, then what is missing, and ends with 1 if anything is.
 #![forbid(unsafe_code)]
 
 mod across;
 mod calls;
 mod letters;
+mod name_bytes;
 mod pairs;
 mod sends;
 
 use across::Across;
 use calls::Calls;
 use letters::Letters;
+use name_bytes::NameBytes;
 use pairs::Pairs;
 use second::player::{Outcome, Player};
 use second::script::{lines, parse, Line};
@@ -26,6 +28,7 @@ struct Reach {
     sends: Sends,
     across: Across,
     letters: Letters,
+    name_bytes: NameBytes,
     lines: usize,
     bad_lines: usize,
 }
@@ -67,6 +70,7 @@ impl Reach {
         let damaged = before.lend().look().damaged();
         self.calls.note(name, code, damaged);
         self.letters.note(name, arguments, code, &before);
+        self.name_bytes.note(name, arguments, code, &before);
         let old = sends::log_of(&mut before);
         let new = sends::log_of(after);
         if let (Some(old), Some(new)) = (old, new) {
@@ -88,6 +92,7 @@ impl Reach {
         missing.extend(self.sends.missing());
         missing.extend(self.across.missing());
         missing.extend(self.letters.missing());
+        missing.extend(self.name_bytes.missing());
         if self.bad_lines == 0 {
             missing.push("a bad line".to_string());
         }
@@ -105,7 +110,7 @@ fn main() -> std::io::Result<()> {
     let mut text =
         format!("{} scripts, {} lines, {} ending in a bad line\n", files.len(), reach.lines, reach.bad_lines);
     text += &(reach.calls.table() + &reach.pairs.table() + &reach.sends.table() + &reach.across.table());
-    text += &reach.letters.table();
+    text += &(reach.letters.table() + &reach.name_bytes.table());
     missing.iter().for_each(|what| text += &format!("missing: {what}\n"));
     if missing.is_empty() {
         text += "nothing is missing\n";

@@ -1,4 +1,4 @@
-//! An ordered write-behind volume, as document 01 and the requests K1 and K2 of document 02 describe it.
+//! An ordered write-behind volume, as document 01 and the requests K1 to K3 of document 02 describe it.
 //!
 //! The calls take a geometry, numbers and byte slices and answer with the numbers of document 01:
 //! see [`session`] (format, mount), [`questions`], [`changes`], [`sends`] and [`losses`].
