@@ -49,7 +49,8 @@ static uint64_t stat_of(void) { return EITHER(stat, LENT, 1, QUIET); }
 static uint64_t read_of(void) { return EITHER(read, LENT, 1, QUIET, 0, own, sizeof own); }
 static uint64_t create(void) { return EITHER(create, LENT, 1, 15, TEXT("a new file"), N - 1); }
 static uint64_t make(void) { return EITHER(mkdir, LENT, 1, 15, TEXT("a new directory"), N - 1); }
-static uint64_t remove_of(void) { return EITHER(remove, LENT, 1, 15, TEXT("f126")); }
+static uint64_t remove_file(void) { return EITHER(remove_file, LENT, 1, 15, TEXT("f126")); }
+static uint64_t remove_directory(void) { return EITHER(remove_directory, LENT, 1, 15, TEXT("empty")); }
 static uint64_t rename_of(void) { return EITHER(rename, LENT, 1, 15, TEXT("f126"), 15, TEXT("f125")); }
 static uint64_t overwrite(void) { return EITHER(write, LENT, 1, QUIET, 1024, own, 1024); }
 static uint64_t append(void) { return EITHER(write, LENT, 1, QUIET, 2048, own, 1024); }
@@ -126,7 +127,7 @@ static struct wb_value attempt(uint64_t program)
     switch (random_below(12)) {
     case 0: return wb_create(LENT, program, parent, unnamed, other_length, unused);
     case 1: return wb_mkdir(LENT, program, parent, unnamed, other_length, unused);
-    case 2: return wb_remove(LENT, program, parent_of(unused), unnamed, other_length);
+    case 2: return wb_remove_file(LENT, program, parent_of(unused), unnamed, other_length);
     case 3: return wb_rename(LENT, program, parent, named, length, parent, unnamed, other_length);
     case 4: return wb_rename(LENT, program, parent, unnamed, other_length, parent, named, length);
     case 5: return wb_write(LENT, program, file, wb_stat(LENT, program, file).length, own, 1 + at);
@@ -269,14 +270,28 @@ static void measure_all(const struct timed *timed, size_t count, const char *sta
 static const struct timed questions[] = {
     {"lookup", lookup, 1, 0}, {"list", list, 1, 0}, {"stat", stat_of, 1, 0}, {"read, 2,048 bytes", read_of, 1, 0}};
 static const struct timed changes[] = {
-    {"create", create, 1, 0}, {"mkdir", make, 1, 0}, {"remove", remove_of, 1, 0}, {"rename that displaces", rename_of, 1, 0},
-    {"write, overwrite", overwrite, 1, 0}, {"write, append", append, 1, 0}, {"setlen", setlen, 1, 0}, {"forder of 8", forder, 1, 0}};
+    {"create", create, 1, 0}, {"mkdir", make, 1, 0}, {"remove file", remove_file, 1, 0},
+    {"rename that displaces", rename_of, 1, 0}, {"write, overwrite", overwrite, 1, 0}, {"write, append", append, 1, 0},
+    {"setlen", setlen, 1, 0}, {"forder of 8", forder, 1, 0}};
+static const struct timed emptied = {"remove directory", remove_directory, 1, 0};
 static const struct timed twofold[] = {{"write, across the end", across, 1, 0}};
 static const struct timed sends[] = {
     {"push", push, 1, 0}, {"push behind another", push_behind, 1, 0}, {"fsync of one", sync_few, 1, 0},
     {"fsync of many", sync_many, 0, 0}, {"cut", cut, 0, 0}};
 static const struct timed losses[] = {{"take", take, 1, 0}, {"renew", renew, 1, 0}};
 static const struct timed beginnings[] = {{"format", format, 1, 1}, {"mount", mount, 1, 0}};
+
+/* The remove of an empty directory, which stands in directory 15 for it alone: it is made and sent before, and gone after. */
+static void measure_emptied(const char *state, double goal)
+{
+    restore();
+    sent(wb_mkdir(LENT, 1, 15, TEXT("empty"), N - 1), "mkdir");
+    save();
+    measure(&emptied, state, goal);
+    restore();
+    sent(wb_remove_directory(LENT, 1, 15, TEXT("empty")), "remove directory");
+    save();
+}
 
 /* All calls with so many waiting, or lost; a change is the last of them, a write across the end the last two. What waits then draws no
  * random numbers from what is measured after it. */
@@ -290,6 +305,7 @@ static void measure_with(uint64_t waiting, const char *state, double goal)
     if (waiting == M)
         make_waiting(M - 1);
     measure_all(changes, COUNT(changes), state, goal);
+    measure_emptied(state, goal);
     kept_chance = chance;
     if (waiting == M)
         make_waiting(M - 2);

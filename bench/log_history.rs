@@ -133,11 +133,12 @@ impl History {
         self.issue(|lent, program| second::make_directory(lent, program, parent as u64, &name, object as u64));
     }
 
-    /// Removes a file or an empty directory.
+    /// Removes a file or an empty directory, each by its own call.
     fn remove(&mut self) {
         let object = self.pick(|view, object| object > 0 && !view.is_free(object) && !view.has_children(object));
         let (parent, name) = self.place(object);
-        self.issue(|lent, program| second::remove(lent, program, parent, &name));
+        let remove = if self.view().is_file(object) { second::remove_file } else { second::remove_directory };
+        self.issue(|lent, program| remove(lent, program, parent, &name));
     }
 
     /// Gives a file a new name in some directory.

@@ -563,10 +563,11 @@ class Player:
     # the arguments of each line: a an area, n a number, = bytes
     LINES = {'give': 'nnn', 'size': 'nnn', 'fit': '', 'poke': 'an=', 'copy': 'aa', 'show': 'ann', 'digest': '',
              'format': '', 'mount': '', 'lookup': 'n=', 'list': 'nn=', 'stat': 'nn', 'read': 'nnn=', 'create': 'nn=n',
-             'mkdir': 'nn=n', 'remove': 'nn=', 'rename': 'nn=n=', 'write': 'nnn=', 'setlen': 'nnn', 'forder': 'n=', 'push': 'n',
-             'fsync': 'nnn', 'cut': '', 'take': 'n=', 'renew': 'n', 'record': 'n='}
+             'mkdir': 'nn=n', 'rmfile': 'nn=', 'rmdir': 'nn=', 'rename': 'nn=n=', 'write': 'nnn=', 'setlen': 'nnn',
+             'forder': 'n=', 'push': 'n', 'fsync': 'nnn', 'cut': '', 'take': 'n=', 'renew': 'n', 'record': 'n='}
     # the calls that the definitions name otherwise, and those that print their buffer
-    NAMES = {'create': 'createFile', 'mkdir': 'makeDirectory', 'setlen': 'setLength'}
+    NAMES = {'create': 'createFile', 'mkdir': 'makeDirectory', 'rmfile': 'removeFile', 'rmdir': 'removeDirectory',
+             'setlen': 'setLength'}
     BUFFERED = {'list', 'read', 'take'}
 
     def __init__(self, translator, returned):

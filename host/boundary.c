@@ -83,19 +83,23 @@ static void status(int line, const char *what, struct wb_status got,
 
 #define LENT N, B, M, s.at, s.length, v.at, v.length, l.at, l.length
 #define TEXT(text) (const uint8_t *)(text), sizeof(text) - 1
+#define STRING(text) (const uint8_t *)(text), strlen(text)
 #define OWN own.at, own.length
 
 /* Every entry that is lent all three buffers, with arguments told by a struct. */
 static const char *const names[] = {"wb_mount", "wb_lookup", "wb_list", "wb_stat", "wb_read", "wb_create", "wb_mkdir",
-    "wb_remove", "wb_rename", "wb_write", "wb_setlen", "wb_forder", "wb_push", "wb_fsync", "wb_cut", "wb_take", "wb_renew"};
+    "wb_remove_file", "wb_remove_directory", "wb_rename", "wb_write", "wb_setlen", "wb_forder", "wb_push", "wb_fsync", "wb_cut",
+    "wb_take", "wb_renew"};
 enum { MOUNT, LOOKUP, LIST, STAT, READ, CREATE, MKDIR,
-    REMOVE, RENAME, WRITE, SETLEN, FORDER, PUSH, FSYNC, CUT, TAKE, RENEW, ENTRIES };
+    REMOVE_FILE, REMOVE_DIRECTORY, RENAME, WRITE, SETLEN, FORDER, PUSH, FSYNC, CUT, TAKE, RENEW, ENTRIES };
 
 struct given {
     uint64_t n, b, m, program, directory, file, parent, second_parent, fresh, offset, length, sequence;
+    const char *name; /* of what is removed or renamed */
 };
-/* With the buffers as main() has made them, every entry takes these, but for take, which has nothing to take. */
-static const struct given usual = {N, B, M, 0, 0, 1, 0, 0, 3, 0, 2, 1};
+/* With the buffers as main() has made them, every entry takes these, but for take, which has nothing to take, and remove directory,
+ * since "task" is a file. */
+static const struct given usual = {N, B, M, 0, 0, 1, 0, 0, 3, 0, 2, 1, "task"};
 
 static uint64_t only(struct wb_value r)
 {
@@ -118,8 +122,9 @@ static uint64_t called(int entry, struct given g)
     case READ: return only(wb_read(GIVEN, g.program, g.file, g.offset, OWN));
     case CREATE: return only(wb_create(GIVEN, g.program, g.parent, TEXT("new"), g.fresh));
     case MKDIR: return only(wb_mkdir(GIVEN, g.program, g.parent, TEXT("new"), g.fresh));
-    case REMOVE: return only(wb_remove(GIVEN, g.program, g.parent, TEXT("task")));
-    case RENAME: return only(wb_rename(GIVEN, g.program, g.parent, TEXT("task"), g.second_parent, TEXT("new")));
+    case REMOVE_FILE: return only(wb_remove_file(GIVEN, g.program, g.parent, STRING(g.name)));
+    case REMOVE_DIRECTORY: return only(wb_remove_directory(GIVEN, g.program, g.parent, STRING(g.name)));
+    case RENAME: return only(wb_rename(GIVEN, g.program, g.parent, STRING(g.name), g.second_parent, TEXT("new")));
     case WRITE: return only(wb_write(GIVEN, g.program, g.file, g.offset, TEXT("xy")));
     case SETLEN: return only(wb_setlen(GIVEN, g.program, g.file, g.length));
     case FORDER: return only(wb_forder(GIVEN, g.program, TEXT("\1\0\0\0")));
@@ -150,11 +155,10 @@ static void refused(int line, int entry, struct given g, uint64_t number)
         refused(__LINE__, entry, g_, number); \
     } while (0)
 
-/* Refusals at the boundary: null pointers and numbers beyond 32 or 16 bits. */
+/* Refusals of every entry: null pointers for the three buffers, and n, b, m or a program beyond 32 bits. */
 static void refusals(void)
 {
     struct bytes *const lent[] = {&s, &v, &l};
-    const struct bytes kept = own;
     int entry, i;
     for (entry = 0; entry < ENTRIES; entry++) {
         for (i = 0; i < 3; i++) {
@@ -171,6 +175,11 @@ static void refusals(void)
     }
     CODE(wb_format(N, B, M, NULL, 0), WB_WRONG_BUFFER);
     CODE(wb_format(N + WIDE, B, M, s.at, s.length), WB_WRONG_BUFFER);
+}
+
+/* Numbers beyond 32, 16 or 8 bits whose lower bits would do. */
+static void wide_numbers(void)
+{
     REFUSED(LIST, directory, 65536, WB_BAD_NUMBER);
     REFUSED(STAT, file, 65537, WB_BAD_NUMBER);
     REFUSED(READ, file, 65537, WB_BAD_NUMBER);
@@ -182,7 +191,10 @@ static void refusals(void)
     REFUSED(CREATE, parent, 65536, WB_BAD_NUMBER);
     REFUSED(MKDIR, fresh, 256 + 3, WB_BAD_NUMBER);
     REFUSED(MKDIR, parent, WIDE, WB_BAD_NUMBER);
-    REFUSED(REMOVE, parent, 65536, WB_BAD_NUMBER);
+    REFUSED(REMOVE_FILE, parent, 65536, WB_BAD_NUMBER);
+    REFUSED(REMOVE_FILE, parent, WIDE, WB_BAD_NUMBER);
+    REFUSED(REMOVE_DIRECTORY, parent, 65536, WB_BAD_NUMBER);
+    REFUSED(REMOVE_DIRECTORY, parent, WIDE, WB_BAD_NUMBER);
     REFUSED(RENAME, parent, 65536, WB_BAD_NUMBER);
     REFUSED(RENAME, second_parent, 65536, WB_BAD_NUMBER);
     REFUSED(READ, offset, WIDE, WB_BAD_RANGE);
@@ -190,6 +202,12 @@ static void refusals(void)
     REFUSED(WRITE, offset, UINT64_MAX, WB_BAD_RANGE);
     REFUSED(SETLEN, length, WIDE + 2, WB_BAD_RANGE);
     REFUSED(PUSH, sequence, WIDE + 1, WB_NONE);
+}
+
+/* A null pointer for the call's own buffer, path, name, data or list. */
+static void null_pointers(void)
+{
+    const struct bytes kept = own;
     refused(__LINE__, TAKE, usual, WB_NONE);
     own = null;
     refused(__LINE__, LIST, usual, WB_SHORT_BUFFER);
@@ -198,7 +216,8 @@ static void refusals(void)
     VALUE(wb_lookup(LENT, 0, NULL, 0), WB_BAD_NAME, 0);
     VALUE(wb_create(LENT, 0, 0, NULL, 0, 3), WB_BAD_NAME, 0);
     VALUE(wb_mkdir(LENT, 0, 0, NULL, 0, 3), WB_BAD_NAME, 0);
-    VALUE(wb_remove(LENT, 0, 0, NULL, 0), WB_BAD_NAME, 0);
+    VALUE(wb_remove_file(LENT, 0, 0, NULL, 0), WB_BAD_NAME, 0);
+    VALUE(wb_remove_directory(LENT, 0, 0, NULL, 0), WB_BAD_NAME, 0);
     VALUE(wb_rename(LENT, 0, 0, NULL, 0, 0, TEXT("new")), WB_BAD_NAME, 0);
     VALUE(wb_rename(LENT, 0, 0, TEXT("task"), 0, NULL, 0), WB_BAD_NAME, 0);
     VALUE(wb_write(LENT, 0, 1, 3, NULL, 0), WB_BAD_RANGE, 0);
@@ -242,7 +261,7 @@ static void session(void)
     VALUE(wb_forder(LENT, 0, TEXT("\1\0\2\0")), WB_ACCEPTED, 5);
     VALUE(wb_setlen(LENT, 1, 1, 1000), WB_ACCEPTED, 6);
     STATUS(wb_stat(LENT, 1, 1), WB_ACCEPTED, 1, 1000, 1);
-    VALUE(wb_remove(LENT, 0, 2, TEXT("t")), WB_LOG_FULL, 0);
+    VALUE(wb_remove_file(LENT, 0, 2, TEXT("t")), WB_LOG_FULL, 0);
     VALUE(wb_fsync(LENT, 1, 2, WIDE), WB_ACCEPTED, 3);
     BYTES(made, 1, 1, 2, 0, 't', 0, 0, 0, 0);
     BYTES(l.at, 7, 0, 0, 0, 0, 0, 0, 0, 1, 0, 0, 0, 2, 0, 0, 0, 65, 0, 6, 0, 0, 0, 1, 7, 1, 0, 232, 3, 0, 0, 0);
@@ -261,7 +280,7 @@ static void session(void)
     STATUS(wb_stat(LENT, 1, 1), WB_ACCEPTED, 1, 3, 0);
     VALUE(wb_create(LENT, 0, 2, TEXT("u"), 3), WB_ACCEPTED, 7);
     VALUE(wb_write(LENT, 0, 3, 0, TEXT("xyz")), WB_ACCEPTED, 8);
-    VALUE(wb_remove(LENT, 0, 2, TEXT("t")), WB_ACCEPTED, 9);
+    VALUE(wb_remove_file(LENT, 0, 2, TEXT("t")), WB_ACCEPTED, 9);
     VALUE(wb_fsync(LENT, 1, 3, 1), WB_LINK_LOST, 1);
     BYTES(l.at, 10, 0, 0, 0, 3, 0, 0, 0, 2);
     VALUE(wb_take(LENT, 0, OWN), WB_ACCEPTED, 19);
@@ -369,7 +388,7 @@ static void lost_spellings(void)
     SAME(v.at, s.at, VOLUME);
     VALUE(wb_rename(LENT, 0, 0, NAME(small), 0, NAME(small)), WB_ACCEPTED, 4);
     SAME(in_view + 4, NAME(small));
-    VALUE(wb_remove(LENT, 0, 0, NAME(capital)), WB_ACCEPTED, 5);
+    VALUE(wb_remove_file(LENT, 0, 0, NAME(capital)), WB_ACCEPTED, 5);
     BYTES(in_view, 0, 0, 0, 0, 0);
     VALUE(wb_fsync(LENT, 0, 0, 1), WB_LINK_LOST, 1);
     SAME(in_view + 4, NAME(capital));
@@ -380,7 +399,7 @@ static void lost_spellings(void)
     VALUE(wb_take(LENT, 0, OWN), WB_ACCEPTED, 73);
     SAME(own.at + 13, NAME(capital));
     CODE(wb_renew(LENT, 0), WB_ACCEPTED);
-    VALUE(wb_remove(LENT, 0, 0, NAME(small)), WB_ACCEPTED, 6);
+    VALUE(wb_remove_file(LENT, 0, 0, NAME(small)), WB_ACCEPTED, 6);
     CODE(wb_push(LENT, 6), WB_ACCEPTED);
     BYTES(s.at + ENTRY, 0, 0, 0, 0, 0);
 }
@@ -398,10 +417,10 @@ static void different_names(void)
         VALUE(wb_create(LENT, 0, 0, &pairs[i][1], 1, 2), WB_ACCEPTED, sequence++);
         VALUE(wb_lookup(LENT, 0, paths[0], 2), WB_ACCEPTED, 1);
         VALUE(wb_lookup(LENT, 0, paths[1], 2), WB_ACCEPTED, 2);
-        VALUE(wb_remove(LENT, 0, 0, &pairs[i][1], 1), WB_ACCEPTED, sequence++);
+        VALUE(wb_remove_file(LENT, 0, 0, &pairs[i][1], 1), WB_ACCEPTED, sequence++);
         VALUE(wb_lookup(LENT, 0, paths[1], 2), WB_NO_OBJECT, 0);
-        VALUE(wb_remove(LENT, 0, 0, &pairs[i][1], 1), WB_NO_OBJECT, 0);
-        VALUE(wb_remove(LENT, 0, 0, &pairs[i][0], 1), WB_ACCEPTED, sequence++);
+        VALUE(wb_remove_file(LENT, 0, 0, &pairs[i][1], 1), WB_NO_OBJECT, 0);
+        VALUE(wb_remove_file(LENT, 0, 0, &pairs[i][0], 1), WB_ACCEPTED, sequence++);
         VALUE(wb_fsync(LENT, 0, 0, 4), WB_ACCEPTED, 4);
     }
 }
@@ -469,16 +488,107 @@ static void name_bytes(void)
         memset(v.at + ENTRY, 0, ENTRY);
         if (!permitted) {
             VALUE(wb_create(LENT, 0, 0, name, 2, 1), WB_BAD_NAME, 0);
-            VALUE(wb_remove(LENT, 0, 0, name, 2), WB_BAD_NAME, 0);
+            VALUE(wb_remove_file(LENT, 0, 0, name, 2), WB_BAD_NAME, 0);
+            VALUE(wb_remove_directory(LENT, 0, 0, name, 2), WB_BAD_NAME, 0);
             VALUE(wb_lookup(LENT, 0, path, 3), byte == 0 ? WB_BAD_NAME : WB_NO_OBJECT, 0);
             continue;
         }
         VALUE(wb_create(LENT, 0, 0, name, 2, 1), WB_ACCEPTED, sequence++);
         SAME(v.at + ENTRY + 4, name, 2);
         VALUE(wb_lookup(LENT, 0, path, 3), WB_ACCEPTED, 1);
-        VALUE(wb_remove(LENT, 0, 0, name, 2), WB_ACCEPTED, sequence++);
+        VALUE(wb_remove_file(LENT, 0, 0, name, 2), WB_ACCEPTED, sequence++);
         VALUE(wb_fsync(LENT, 0, 0, 2), WB_ACCEPTED, 2);
     }
+}
+
+/* Removes that are refused before a slot is sought, in the volume of choices(): each call finds an object of the other kind, with
+ * children or without, by the stored name and in another spelling; or a directory with children; or no object at all. */
+static void refused_removes(int line)
+{
+    static const struct {
+        int entry;
+        uint64_t parent;
+        const char *name;
+        uint64_t number;
+    } removes[] = {{REMOVE_DIRECTORY, 0, "task", WB_WRONG_KIND}, {REMOVE_DIRECTORY, 0, "tasK", WB_WRONG_KIND},
+        {REMOVE_FILE, 2, "in", WB_WRONG_KIND}, {REMOVE_FILE, 2, "In", WB_WRONG_KIND}, {REMOVE_FILE, 0, "box", WB_WRONG_KIND},
+        {REMOVE_FILE, 0, "BOX", WB_WRONG_KIND}, {REMOVE_DIRECTORY, 0, "box", WB_NOT_EMPTY},
+        {REMOVE_DIRECTORY, 0, "bOx", WB_NOT_EMPTY}, {REMOVE_FILE, 0, "in", WB_NO_OBJECT},
+        {REMOVE_DIRECTORY, 2, "task", WB_NO_OBJECT}, {REMOVE_FILE, 1, "in", WB_WRONG_KIND},
+        {REMOVE_DIRECTORY, 1, "task", WB_WRONG_KIND}};
+    size_t i;
+    for (i = 0; i < sizeof removes / sizeof *removes; i++) {
+        struct given g = usual;
+        g.parent = removes[i].parent;
+        g.name = removes[i].name;
+        refused(line, removes[i].entry, g, removes[i].number);
+    }
+}
+
+/* Remove directory of directory 3 is refused with the number, and so is remove file of file 1. */
+static void refused_right(int line, uint64_t number)
+{
+    struct given g = usual;
+    refused(line, REMOVE_FILE, g, number);
+    g.parent = 2;
+    g.name = "in";
+    refused(line, REMOVE_DIRECTORY, g, number);
+}
+
+/* Both are accepted, and lost; the records are those of kind 3. Nothing waits before. */
+static void lost_removes(void)
+{
+    static const uint8_t records[2][17] = {{19, 0, 1, 0, 0, 0, 0, 3, 1, 0, 0, 0, 4, 'T', 'a', 's', 'k'},
+        {19, 0, 2, 0, 0, 0, 0, 3, 3, 0, 2, 0, 2, 'i', 'N', 170, 170}};
+    uint8_t *const first = l.at + 16, *const second = first + (LOG - 8) / M; /* the records of the first two slots */
+    VALUE(wb_remove_file(LENT, 0, 0, TEXT("Task")), WB_ACCEPTED, 1);
+    BYTES(v.at + ENTRY, 0, 0, 0, 0, 0);
+    VALUE(wb_remove_directory(LENT, 0, 2, TEXT("iN")), WB_ACCEPTED, 2);
+    BYTES(v.at + 3 * ENTRY, 0, 0, 0, 0, 0);
+    SAME(first, records[0], 17);
+    SAME(second, records[1], 15);
+    CODE(wb_cut(LENT), WB_ACCEPTED);
+    SAME(v.at, s.at, VOLUME);
+    REFUSED(REMOVE_DIRECTORY, name, "task", WB_MARKED);
+    REFUSED(REMOVE_FILE, name, "box", WB_MARKED);
+    memset(own.at, 170, own.length);
+    VALUE(wb_take(LENT, 0, OWN), WB_ACCEPTED, 17);
+    SAME(own.at, records[0], 17);
+    RECORD(wb_record(0, OWN), 0, 17, 1, 0, 3, 19, 1, 0, 0, 0, 13, 4, 0, 0, 0, 0, 0, 0, 0);
+    memset(own.at, 170, own.length);
+    VALUE(wb_take(LENT, 0, OWN), WB_ACCEPTED, 15);
+    SAME(own.at, records[1], 17);
+    RECORD(wb_record(0, OWN), 0, 15, 2, 0, 3, 19, 3, 2, 0, 0, 13, 2, 0, 0, 0, 0, 0, 0, 0);
+    CODE(wb_renew(LENT, 0), WB_ACCEPTED);
+}
+
+/* Remove file and remove directory on a new volume with file 1, "task", directory 2, "box", and in it directory 3, "in". Program 1
+ * makes them, and program 0 depends on nothing, so that a dependence noted by a refused call would show. */
+static void choices(void)
+{
+    CODE(wb_format(N, B, M, s.at, s.length), WB_ACCEPTED);
+    CODE(wb_mount(LENT), WB_ACCEPTED);
+    VALUE(wb_create(LENT, 1, 0, TEXT("task"), 1), WB_ACCEPTED, 1);
+    VALUE(wb_mkdir(LENT, 1, 0, TEXT("box"), 2), WB_ACCEPTED, 2);
+    REFUSED(REMOVE_FILE, parent, 3, WB_NO_OBJECT);
+    REFUSED(REMOVE_DIRECTORY, parent, 3, WB_NO_OBJECT);
+    VALUE(wb_mkdir(LENT, 1, 2, TEXT("in"), 3), WB_ACCEPTED, 3);
+    refused_removes(__LINE__);
+    VALUE(wb_forder(LENT, 1, TEXT("\0\0\1\0\2\0\3\0")), WB_ACCEPTED, 4);
+    refused_removes(__LINE__);
+    refused_right(__LINE__, WB_LOG_FULL);
+    VALUE(wb_fsync(LENT, 1, 0, 4), WB_ACCEPTED, 4);
+    set_next(255);
+    refused_removes(__LINE__);
+    refused_right(__LINE__, WB_SPENT);
+    CODE(wb_mount(LENT), WB_ACCEPTED);
+    lost_removes();
+    VALUE(wb_remove_directory(LENT, 0, 2, TEXT("in")), WB_ACCEPTED, 3);
+    VALUE(wb_remove_directory(LENT, 0, 0, TEXT("Box")), WB_ACCEPTED, 4);
+    VALUE(wb_remove_file(LENT, 0, 0, TEXT("task")), WB_ACCEPTED, 5);
+    VALUE(wb_fsync(LENT, 0, 0, 3), WB_ACCEPTED, 3);
+    BYTES(s.at, 2, 0, 0, 0, 0);
+    SAME(s.at + ENTRY, (const uint8_t[3 * ENTRY]){0}, 3 * ENTRY);
 }
 
 int main(void)
@@ -497,6 +607,8 @@ int main(void)
     VALUE(wb_write(LENT, 0, 1, 0, TEXT("hi\n")), WB_ACCEPTED, 2);
     SAME(s.at, root, VOLUME);
     refusals();
+    wide_numbers();
+    null_pointers();
     records();
     session();
     across_end();
@@ -505,6 +617,7 @@ int main(void)
     different_names();
     names_twice();
     name_bytes();
+    choices();
     for (i = 0; i < 4; i++) {
         SAME(areas[i], guard, GUARD);
         SAME(areas[i] + sizes[i] - GUARD, guard, GUARD);

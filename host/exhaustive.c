@@ -1,9 +1,11 @@
 /* Bounded and exhaustive: all sequences of up to 4 operations from a small alphabet on 3 objects, every closed set of them sent
  * by pushes in every order, then a cut. A write across the end of a file is two operations of a sequence. Names come in several
- * spellings. Run it with ./exhaustive. What buffers, answers, marks and losses have to be is reckoned by the host alone, in
- * exhaustive_parts/trial.c. It stops with 1 at the first difference. */
+ * spellings, and each object is also given to the wrong one of the two calls that remove. Run it with ./exhaustive. What buffers,
+ * answers, marks and losses have to be is reckoned by the host alone, in exhaustive_parts/trial.c. It stops with 1 at the first
+ * difference. */
 #include <string.h>
 #include <time.h>
+#include "choices.h"
 #include "spellings.h"
 
 static const struct assignment assignments[] = {
@@ -218,8 +220,10 @@ static void try_fsyncs(void)
 
 /* ---- Sequences ---- */
 
+/* A remove goes to the call for the kind that its object has in the view. */
 static struct wb_value call(struct buffers *lent, const struct operation *given)
 {
+    const struct volume view = volume_of(stage()->view);
     uint8_t list[2 * WB_LIST_OBJECTS] = {0};
     uint64_t i;
     switch (given->kind) {
@@ -228,7 +232,7 @@ static struct wb_value call(struct buffers *lent, const struct operation *given)
     case MAKE_DIRECTORY:
         return wb_mkdir(LENT(lent), given->program, given->parent, given->name, given->name_length, given->object);
     case REMOVE:
-        return wb_remove(LENT(lent), given->program, given->parent, given->name, given->name_length);
+        return call_remove(lent, given, kind_at(&view, given->object));
     case RENAME:
         return wb_rename(LENT(lent), given->program, given->parent, given->name, given->name_length,
                          given->second_parent, given->second_name, given->second_name_length);
@@ -271,8 +275,8 @@ static void note_issued(struct stage *next)
     counts.kinds[operation->kind]++;
 }
 
-/* The call is refused and changes nothing. One that only lacks a slot is refused for that, and one that would make an object is for
- * a name that is there in another spelling. */
+/* The call is refused and changes nothing. One that only lacks a slot is refused for that, one that would make an object is for a
+ * name that is there in another spelling, and a remove is for a free number or for children. */
 static void check_refused(struct wb_value got, const struct buffers *lent, int lacks_slot)
 {
     const struct volume view = volume_of(stage()->view);
@@ -282,6 +286,8 @@ static void check_refused(struct wb_value got, const struct buffers *lent, int l
         answered("a write across the end with one slot free", got.returned, WB_LOG_FULL);
     if (taken)
         answered("making an object whose name is there in another spelling", got.returned, WB_TAKEN);
+    if (now.operations[now.issued].kind == REMOVE)
+        check_refused_remove(got, &now.operations[now.issued]);
     unchanged("the refused call", lent, &stage()->lent);
     now.asked = 0;
     counts.refused++;
@@ -347,6 +353,7 @@ static void try_all(void)
     if (now.assignment->asks == AFTER_FIRST && first_call())
         ask(&stage()->lent, stage()->dependents);
     try_sequence();
+    try_choices();
     if (now.issued == now.most)
         return;
     for (letter = 0; letter < letter_count; letter++) {
@@ -400,6 +407,11 @@ static void print_alphabet(void)
     print_count(counts.case_alone, "renames that change only the case");
     print_count(counts.displacing_other, "renames that displace an object with the name in another spelling");
     print_count(counts.taken_other, "objects not made, since their name was there in another spelling");
+    print_count(counts.wrong_files, "files given to remove directory, all refused");
+    print_count(counts.wrong_empty, "empty directories given to remove file, all refused");
+    print_count(counts.wrong_filled, "directories with children given to remove file, all refused for their kind");
+    print_count(counts.wrong_full, "of these three with no slot free");
+    print_count(counts.not_empty, "directories with children given to remove directory, all refused for these");
     print_count(counts.twice, "volumes with two spellings of a name in a directory, all refused");
 }
 

@@ -18,8 +18,9 @@
 #define GIVES_OBJECT (GIVES_ASKED | BIT(WB_BAD_NUMBER) | BIT(WB_NO_OBJECT))
 #define GIVES_KIND (GIVES_OBJECT | BIT(WB_WRONG_KIND))
 #define GIVES_ISSUED (BIT(WB_LOG_FULL) | BIT(WB_SPENT))
-#define GIVES_MADE (GIVES_KIND | GIVES_TEXT | GIVES_ISSUED | BIT(WB_TAKEN))
-#define GIVES_NAMED (GIVES_KIND | GIVES_TEXT | GIVES_ISSUED | BIT(WB_NOT_EMPTY))
+#define GIVES_NAMED (GIVES_KIND | GIVES_TEXT | GIVES_ISSUED)
+#define GIVES_MADE (GIVES_NAMED | BIT(WB_TAKEN))
+#define GIVES_EMPTIED (GIVES_NAMED | BIT(WB_NOT_EMPTY))
 #define GIVES_WRITTEN (GIVES_KIND | GIVES_ISSUED | BIT(WB_BAD_RANGE))
 /* The second sense of 2, an operation being sent does not apply, is counted as a number of its own. */
 #define DOES_NOT_APPLY 21
@@ -34,8 +35,9 @@ const struct shape shapes[ENTRY_COUNT] = {
     [READ] = {"read", ASKED | BIT(OBJECT) | BIT(OFFSET), THREE | BIT(OWN), GIVES_KIND | BIT(WB_BAD_RANGE)},
     [CREATE] = {"create", ASKED | BIT(PARENT) | BIT(OBJECT), THREE | BIT(OWN), GIVES_MADE},
     [MKDIR] = {"mkdir", ASKED | BIT(PARENT) | BIT(OBJECT), THREE | BIT(OWN), GIVES_MADE},
-    [REMOVE] = {"remove", ASKED | BIT(PARENT), THREE | BIT(OWN), GIVES_NAMED},
-    [RENAME] = {"rename", ASKED | BIT(PARENT) | BIT(SECOND_PARENT), THREE | BIT(OWN) | BIT(SECOND_NAME), GIVES_NAMED},
+    [REMOVE_FILE] = {"remove_file", ASKED | BIT(PARENT), THREE | BIT(OWN), GIVES_NAMED},
+    [REMOVE_DIRECTORY] = {"remove_directory", ASKED | BIT(PARENT), THREE | BIT(OWN), GIVES_EMPTIED},
+    [RENAME] = {"rename", ASKED | BIT(PARENT) | BIT(SECOND_PARENT), THREE | BIT(OWN) | BIT(SECOND_NAME), GIVES_EMPTIED},
     [WRITE] = {"write", ASKED | BIT(OBJECT) | BIT(OFFSET), THREE | BIT(OWN), GIVES_WRITTEN},
     [SETLEN] = {"setlen", ASKED | BIT(OBJECT) | BIT(LENGTH), THREE, GIVES_WRITTEN},
     [FORDER] = {"forder", ASKED, THREE | BIT(OWN), GIVES_OBJECT | GIVES_ISSUED},
@@ -88,7 +90,8 @@ CALL(stat, status, ASKING, number[OBJECT])
 CALL(read, value, ASKING, number[OBJECT], number[OFFSET], FOR_WRITING(OWN))
 CALL(create, value, CHANGING, number[PARENT], FOR_READING(OWN), number[OBJECT])
 CALL(mkdir, value, CHANGING, number[PARENT], FOR_READING(OWN), number[OBJECT])
-CALL(remove, value, CHANGING, number[PARENT], FOR_READING(OWN))
+CALL(remove_file, value, CHANGING, number[PARENT], FOR_READING(OWN))
+CALL(remove_directory, value, CHANGING, number[PARENT], FOR_READING(OWN))
 CALL(rename, value, CHANGING, number[PARENT], FOR_READING(OWN), number[SECOND_PARENT], FOR_READING(SECOND_NAME))
 CALL(write, value, CHANGING, number[OBJECT], number[OFFSET], FOR_READING(OWN))
 CALL(setlen, value, CHANGING, number[OBJECT], number[LENGTH])
@@ -193,6 +196,7 @@ static void make(void)
 {
     const struct call *const call = &progress.call;
     const struct across across = across_of(call);
+    const struct choice choice = choice_of(call);
     const struct spelt spelt = spelt_of(call);
     union answer answers[2];
     uint64_t returned;
@@ -209,6 +213,7 @@ static void make(void)
         stop(call, answers, "the entry cannot return this number");
     counts[call->entry][returned]++;
     count_across(across, returned);
+    count_choice(choice, call, returned);
     count_spelt(spelt, call, returned);
     note_answer(call, answers[PROVED].code.returned);
 }
@@ -295,7 +300,7 @@ static unsigned say_counts(void)
     unsigned entry, number, missing = 0;
     uint64_t accepted = 0;
     for (entry = 0; entry < ENTRY_COUNT; entry++) {
-        printf("wb_%-8s", shapes[entry].name);
+        printf("wb_%-16s", shapes[entry].name);
         for (number = 0; number < RETURNED; number++)
             if (HAS(shapes[entry].returned, number)) {
                 printf("  %u%s: %s", number == DOES_NOT_APPLY ? WB_DAMAGED : number, number == DOES_NOT_APPLY ? "b" : "",
@@ -305,7 +310,7 @@ static unsigned say_counts(void)
         printf("\n");
         accepted += counts[entry][WB_ACCEPTED];
     }
-    missing += say_across() + say_spelt();
+    missing += say_across() + say_choice() + say_spelt();
     printf("%s calls, %s of them accepted\n", commas(progress.made), commas(accepted));
     return missing;
 }

@@ -105,8 +105,10 @@ entries! {
         |lent| value(second::create(lent, program, parent, bytes(name, name_length), object));
     second_mkdir(program: u64, parent: u64, name: *const u8, name_length: u64, object: u64) -> Value,
         |lent| value(second::make_directory(lent, program, parent, bytes(name, name_length), object));
-    second_remove(program: u64, parent: u64, name: *const u8, name_length: u64) -> Value,
-        |lent| value(second::remove(lent, program, parent, bytes(name, name_length)));
+    second_remove_file(program: u64, parent: u64, name: *const u8, name_length: u64) -> Value,
+        |lent| value(second::remove_file(lent, program, parent, bytes(name, name_length)));
+    second_remove_directory(program: u64, parent: u64, name: *const u8, name_length: u64) -> Value,
+        |lent| value(second::remove_directory(lent, program, parent, bytes(name, name_length)));
     second_rename(program: u64, parent: u64, name: *const u8, name_length: u64,
                   second_parent: u64, second_name: *const u8, second_name_length: u64) -> Value,
         |lent| {

@@ -27,7 +27,8 @@ static uint64_t stat_of(void) { return wb_stat(LENT, 0, 1).returned; }
 static uint64_t read_of(void) { return wb_read(LENT, 0, 1, 0, own, sizeof own).returned; }
 static uint64_t create(void) { return wb_create(LENT, 0, 0, (const uint8_t *)"new", 3, 250).returned; }
 static uint64_t make(void) { return wb_mkdir(LENT, 0, 0, (const uint8_t *)"new", 3, 250).returned; }
-static uint64_t remove_of(void) { return wb_remove(LENT, 0, 0, (const uint8_t *)"f200", 4).returned; }
+static uint64_t remove_file(void) { return wb_remove_file(LENT, 0, 0, (const uint8_t *)"f200", 4).returned; }
+static uint64_t remove_directory(void) { return wb_remove_directory(LENT, 0, 0, (const uint8_t *)"d201", 4).returned; }
 static uint64_t rename_of(void) { return wb_rename(LENT, 0, 0, (const uint8_t *)"f200", 4, 0, (const uint8_t *)"f1", 2).returned; }
 static uint64_t write_of(void) { return wb_write(LENT, 0, 1, 0, own, 1024).returned; }
 static uint64_t write_across(void) { return wb_write(LENT, 0, 2, 0, own, 1024).returned; }
@@ -73,8 +74,8 @@ static size_t taken(uint64_t (*call)(void))
     return STACK - left;
 }
 
-/* Files 1 to 200 in the root, on the server with a block each, but file 2 is shorter; then a log full of overwrites, the last one
- * of file 200 alone. */
+/* Files 1 to 200 in the root, on the server with a block each, but file 2 is shorter, and an empty directory, 201; then a log full
+ * of overwrites, the last one of file 200 alone. */
 static void prepare(void)
 {
     char name[8];
@@ -87,6 +88,7 @@ static void prepare(void)
         expect(wb_push(LENT, wb_write(LENT, 0, (uint64_t)i, 0, own, 1024).value).returned, 0, "push");
     }
     expect(wb_push(LENT, wb_setlen(LENT, 0, 2, 1000).value).returned, 0, "push");
+    expect(wb_push(LENT, wb_mkdir(LENT, 0, 0, (const uint8_t *)"d201", 4, 201).value).returned, 0, "push");
     for (i = 0; i < M - 1; i++) {
         struct wb_value written = wb_write(LENT, 0, 1 + (uint64_t)i % 199, 0, own, 4);
         expect(written.returned, 0, "write");
@@ -130,6 +132,28 @@ static void two_free(void)
     expect(wb_push(LENT, first + 1).returned, 0, "push");
 }
 
+static void measure_changes(size_t base)
+{
+    one_free();
+    measure("create", create, 0, base);
+    one_free();
+    measure("mkdir", make, 0, base);
+    one_free();
+    measure("remove file", remove_file, 0, base);
+    one_free();
+    measure("remove directory", remove_directory, 0, base);
+    one_free();
+    measure("rename", rename_of, 0, base);
+    one_free();
+    measure("write", write_of, 0, base);
+    two_free();
+    measure("write across the end", write_across, 0, base);
+    one_free();
+    measure("setlen", setlen, 0, base);
+    one_free();
+    measure("forder", forder, 0, base);
+}
+
 int main(void)
 {
     size_t base;
@@ -143,22 +167,7 @@ int main(void)
     measure("push", push, 0, base);
     restore();
     measure("push behind another", push_behind, WB_NOT_FIRST, base);
-    one_free();
-    measure("create", create, 0, base);
-    one_free();
-    measure("mkdir", make, 0, base);
-    one_free();
-    measure("remove", remove_of, 0, base);
-    one_free();
-    measure("rename", rename_of, 0, base);
-    one_free();
-    measure("write", write_of, 0, base);
-    two_free();
-    measure("write across the end", write_across, 0, base);
-    one_free();
-    measure("setlen", setlen, 0, base);
-    one_free();
-    measure("forder", forder, 0, base);
+    measure_changes(base);
     restore();
     measure("fsync", fsync_of, 0, base);
     restore();

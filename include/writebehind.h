@@ -34,14 +34,14 @@
  * as it was typed, and an operation keeps its names as they were typed in the call. A volume with two names in one directory that
  * are the same is WB_DAMAGED.
  *
- * OPERATIONS AND THEIR ORDER. Each accepted change (create, make directory, remove, rename, write, set length) is made in the
- * view at once, gets the next sequence number, from 1 on, and waits in a slot of the log. So does an accepted forder, which
- * changes nothing in a volume. Only a write across the end of a file is two operations, an overwrite and an append: it gets two
- * numbers and waits in two slots. The operands of an operation are its object and every parent, displaced or listed object. Of
- * two waiting operations that share an operand the earlier precedes the later, unless both are overwrites without a common
- * byte. An operation precedes another also through a third and further ones. It is sent only after all that precede it. So a
- * forder stands between the earlier and the later operations on the objects of its list, and the append of a write across the
- * end is sent only after its overwrite.
+ * OPERATIONS AND THEIR ORDER. Each accepted change (create, make directory, remove file or directory, rename, write, set
+ * length) is made in the view at once, gets the next sequence number, from 1 on, and waits in a slot of the log. So does an
+ * accepted forder, which changes nothing in a volume. Only a write across the end of a file is two operations, an overwrite and
+ * an append: it gets two numbers and waits in two slots. The operands of an operation are its object and every parent,
+ * displaced or listed object. Of two waiting operations that share an operand the earlier precedes the later, unless both are
+ * overwrites without a common byte. An operation precedes another also through a third and further ones. It is sent only after
+ * all that precede it. So a forder stands between the earlier and the later operations on the objects of its list, and the
+ * append of a write across the end is sent only after its overwrite.
  *
  * DEPENDENCE. The log keeps, for each waiting operation, the programs that depend on it: the one that issued it, and each that
  * afterwards had an accepted call on one of its operands, or on an operand of a later operation to which a chain leads, each
@@ -308,7 +308,7 @@ struct wb_value wb_mkdir(uint64_t n, uint64_t b, uint64_t m, const uint8_t *serv
                          uint64_t program, uint64_t parent, const uint8_t *name, uint64_t name_length, uint64_t object);
 
 /*
- * Removes a file or an empty directory.
+ * Removes a file, and nothing else; wb_remove_directory likewise removes an empty directory, and nothing else.
  *   server          read
  *   view            the object becomes free
  *   log             dependence on object and parent is noted; the operation is put into a slot
@@ -317,11 +317,16 @@ struct wb_value wb_mkdir(uint64_t n, uint64_t b, uint64_t m, const uint8_t *serv
  *   name            read: the name to be found in it, in whatever spelling
  * Answers in value the sequence number. Refused with, in this order: WB_WRONG_BUFFER, WB_DAMAGED, WB_BAD_PROGRAM, WB_MARKED,
  * WB_BAD_NAME, WB_LONG_NAME, WB_BAD_NUMBER, WB_NO_OBJECT (the parent is free, or the name absent), WB_WRONG_KIND (the parent is
- * a file), WB_NOT_EMPTY, WB_LOG_FULL, WB_SPENT.
+ * a file; or the object is of the other kind: for wb_remove_file a directory, empty or not, for wb_remove_directory a file),
+ * WB_NOT_EMPTY (wb_remove_directory alone), WB_LOG_FULL, WB_SPENT. Either call issues an operation of kind 3, remove.
  */
-struct wb_value wb_remove(uint64_t n, uint64_t b, uint64_t m, const uint8_t *server, uint64_t server_length,
-                          uint8_t *view, uint64_t view_length, uint8_t *log, uint64_t log_length,
-                          uint64_t program, uint64_t parent, const uint8_t *name, uint64_t name_length);
+struct wb_value wb_remove_file(uint64_t n, uint64_t b, uint64_t m, const uint8_t *server, uint64_t server_length,
+                               uint8_t *view, uint64_t view_length, uint8_t *log, uint64_t log_length,
+                               uint64_t program, uint64_t parent, const uint8_t *name, uint64_t name_length);
+
+struct wb_value wb_remove_directory(uint64_t n, uint64_t b, uint64_t m, const uint8_t *server, uint64_t server_length,
+                                    uint8_t *view, uint64_t view_length, uint8_t *log, uint64_t log_length,
+                                    uint64_t program, uint64_t parent, const uint8_t *name, uint64_t name_length);
 
 /*
  * Gives an object another name, and a file another parent too if wanted. The second name is stored as typed. Another object that

@@ -56,6 +56,10 @@ struct counts {
     uint64_t by_other;                        /* removes and renames that found their object by another spelling */
     uint64_t case_alone, displacing_other;    /* renames that change only the case; that displace the name in another spelling */
     uint64_t taken_other;                     /* objects not made, since their name was there in another spelling */
+    uint64_t wrong_files;                     /* removes by the call for the other kind: files, empty directories, directories */
+    uint64_t wrong_empty, wrong_filled;       /* with children */
+    uint64_t wrong_full;                      /* of them those made with no slot free */
+    uint64_t not_empty;                       /* directories with children given to remove directory */
     uint64_t new_spelling, old_spelling;      /* what the server has of a rename that changes only the case, over all cuts and */
     uint64_t no_spelling;                     /* fsyncs with too few sends: the new spelling, the old one, neither */
     uint64_t looked;                          /* objects then looked up by another spelling */

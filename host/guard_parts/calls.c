@@ -154,9 +154,13 @@ static void choose_place(struct call *call, uint32_t kinds)
         call->number[PARENT] = mostly(ANY_USED);
 }
 
+/* Mostly an object of the kind that the call takes, else one of the other kind; now and then in a free object. */
 static void choose_remove(struct call *call)
 {
-    choose_place(call, ANY_USED);
+    const uint32_t right = call->entry == REMOVE_FILE ? BIT(FILE_KIND) : BIT(DIRECTORY);
+    choose_place(call, chance(2, 3) ? right : ANY_USED & ~right);
+    if (chance(1, 24))
+        call->number[PARENT] = object_of(BIT(FREE));
 }
 
 /* The second name becomes the first, as it is given or as the object has it. */
@@ -315,8 +319,8 @@ static void choose_record(struct call *call)
 static enum entry weighted(void)
 {
     static const uint8_t weights[ENTRY_COUNT] = {[FORMAT] = 1, [MOUNT] = 2, [LOOKUP] = 60, [LIST] = 50, [STAT] = 40, [READ] = 60,
-        [CREATE] = 110, [MKDIR] = 80, [REMOVE] = 70, [RENAME] = 120, [WRITE] = 170, [SETLEN] = 55, [FORDER] = 50, [PUSH] = 120,
-        [FSYNC] = 50, [CUT] = 12, [TAKE] = 30, [RENEW] = 35, [RECORD] = 50};
+        [CREATE] = 110, [MKDIR] = 80, [REMOVE_FILE] = 50, [REMOVE_DIRECTORY] = 50, [RENAME] = 120, [WRITE] = 170, [SETLEN] = 55,
+        [FORDER] = 50, [PUSH] = 120, [FSYNC] = 50, [CUT] = 12, [TAKE] = 30, [RENEW] = 35, [RECORD] = 50};
     uint64_t total = 0, rest, entry;
     for (entry = 0; entry < ENTRY_COUNT; entry++)
         total += weights[entry];
@@ -375,9 +379,10 @@ void lend_present(struct call *call, enum entry entry)
 void choose(struct call *call)
 {
     static void (*const choosers[ENTRY_COUNT])(struct call *) = {[LOOKUP] = choose_lookup, [LIST] = choose_list,
-        [STAT] = choose_stat, [READ] = choose_read, [CREATE] = choose_create, [MKDIR] = choose_create, [REMOVE] = choose_remove,
-        [RENAME] = choose_rename, [WRITE] = choose_write, [SETLEN] = choose_setlen, [FORDER] = choose_forder,
-        [PUSH] = choose_push, [FSYNC] = choose_fsync, [TAKE] = choose_take, [RENEW] = choose_renew, [RECORD] = choose_record};
+        [STAT] = choose_stat, [READ] = choose_read, [CREATE] = choose_create, [MKDIR] = choose_create,
+        [REMOVE_FILE] = choose_remove, [REMOVE_DIRECTORY] = choose_remove, [RENAME] = choose_rename, [WRITE] = choose_write,
+        [SETLEN] = choose_setlen, [FORDER] = choose_forder, [PUSH] = choose_push, [FSYNC] = choose_fsync, [TAKE] = choose_take,
+        [RENEW] = choose_renew, [RECORD] = choose_record};
     lend_present(call, choose_entry());
     call->number[PROGRAM] = a_program();
     if (choosers[call->entry])

@@ -1,6 +1,7 @@
 /* What guard and its parts share: guard.c makes the calls and compares, memory.c lends the buffers, state.c reads what
  * they hold, calls.c chooses sensible calls, wild.c makes arguments wild, disturb.c changes the buffers, across.c counts the
- * answers to writes across the end of a file, spelling.c spells names in other ways and counts the answers to them. */
+ * answers to writes across the end of a file, choice.c those to the two removes, spelling.c spells names in other ways and counts
+ * the answers to them. */
 #ifndef GUARD_H
 #define GUARD_H
 
@@ -10,8 +11,9 @@
 
 #define ENTRIES(DO) \
     DO(FORMAT, format) DO(MOUNT, mount) DO(LOOKUP, lookup) DO(LIST, list) DO(STAT, stat) DO(READ, read) DO(CREATE, create) \
-    DO(MKDIR, mkdir) DO(REMOVE, remove) DO(RENAME, rename) DO(WRITE, write) DO(SETLEN, setlen) DO(FORDER, forder) DO(PUSH, push) \
-    DO(FSYNC, fsync) DO(CUT, cut) DO(TAKE, take) DO(RENEW, renew) DO(RECORD, record)
+    DO(MKDIR, mkdir) DO(REMOVE_FILE, remove_file) DO(REMOVE_DIRECTORY, remove_directory) DO(RENAME, rename) DO(WRITE, write) \
+    DO(SETLEN, setlen) DO(FORDER, forder) DO(PUSH, push) DO(FSYNC, fsync) DO(CUT, cut) DO(TAKE, take) DO(RENEW, renew) \
+    DO(RECORD, record)
 #define CONSTANT(NAME, name) NAME,
 enum entry { ENTRIES(CONSTANT) ENTRY_COUNT };
 
@@ -121,13 +123,23 @@ struct across across_of(const struct call *call);
 void count_across(struct across across, uint64_t returned);
 unsigned say_across(void); /* prints how often each answer came, and gives how many never did */
 
+/* ---- Remove file and remove directory, on objects of either kind ---- */
+int is_remove(enum entry entry);
+struct choice {
+    enum { NO_CHOICE, A_FILE, AN_EMPTY_DIRECTORY, A_FILLED_DIRECTORY, NO_NAME, IN_A_FILE, IN_NOTHING, PLACES } place;
+    enum { ROOM_LEFT, NO_SLOT, NO_NUMBER, ROOMS } room; /* whether one more operation can wait */
+};
+struct choice choice_of(const struct call *call); /* what stands where the call is to remove, as far as name and view tell */
+void count_choice(struct choice choice, const struct call *call, uint64_t returned);
+unsigned say_choice(void); /* prints how often each answer came, and gives how many never did */
+
 /* ---- Names that differ in A to Z against a to z, which are the same, and names that nearly do, which are not ---- */
 /* The object of the view that a name leads to, in whatever spelling; n if there is none. */
 uint64_t sought(uint64_t directory, const uint8_t *name, uint64_t length);
 void respell(uint8_t *text, uint64_t length); /* the case of some letters changes */
 void shift(uint8_t *text, uint64_t length);   /* a byte changes by 32, mostly to one that is another */
 enum spelling {
-    FOUND,              /* lookup, remove, rename, push: an object is found by another spelling */
+    FOUND,              /* lookup, the removes, rename, push: an object is found by another spelling */
     THERE,              /* create, mkdir: the name is there in another spelling, and the number is free */
     CASE_OF_FILE,       /* rename: only the case of the stored name changes */
     CASE_OF_DIRECTORY,  /* the same of a directory with children */
@@ -137,7 +149,7 @@ enum spelling {
 struct spelt {
     uint32_t is;        /* bits of enum spelling, as far as names and the view tell, or of a push the server volume */
     int made;           /* create, mkdir, rename: the new name is absent, and one is there that differs in such a pair of bytes */
-    int not_found;      /* lookup, remove: the same of the name sought */
+    int not_found;      /* lookup, the removes: the same of the name sought */
     enum buffer twice;  /* the volume in which two spellings of a name stand in one directory; LOG if there is none */
 };
 struct spelt spelt_of(const struct call *call);

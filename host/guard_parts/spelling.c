@@ -14,7 +14,11 @@ static struct answered {
     uint64_t seen;
 } answers[] = {
     {"names in another spelling", FOUND, LOOKUP, WB_ACCEPTED, "lookup 0", 0},
-    {NULL, FOUND, REMOVE, WB_ACCEPTED, "remove 0", 0},
+    {NULL, FOUND, REMOVE_FILE, WB_ACCEPTED, "remove_file 0", 0},
+    {NULL, FOUND, REMOVE_FILE, WB_WRONG_KIND, "9", 0},
+    {NULL, FOUND, REMOVE_DIRECTORY, WB_ACCEPTED, "remove_directory 0", 0},
+    {NULL, FOUND, REMOVE_DIRECTORY, WB_WRONG_KIND, "9", 0},
+    {NULL, FOUND, REMOVE_DIRECTORY, WB_NOT_EMPTY, "11", 0},
     {NULL, FOUND, RENAME, WB_ACCEPTED, "rename 0", 0},
     {NULL, FOUND, PUSH, WB_ACCEPTED, "push of a remove or rename 0", 0},
     {NULL, THERE, CREATE, WB_TAKEN, "create 10", 0},
@@ -235,7 +239,7 @@ struct spelt spelt_of(const struct call *call)
     else if (call->entry == PUSH)
         push_one(&spelt, call->number[SEQUENCE]);
     else if (HAS(shapes[call->entry].numbers, PARENT) && own.length <= WB_NAME_BYTES) {
-        if (call->entry == REMOVE)
+        if (is_remove(call->entry))
             find(&spelt, call->number[PARENT], own);
         else if (call->entry == RENAME)
             rename_one(&spelt, call, text_of(call, SECOND_NAME));

@@ -80,7 +80,7 @@ static void wild_own(struct call *call)
     const uint64_t length = call->length[OWN] % WIDE, some = below(1100);
     call->length[OWN] = ONE_OF(0, 0, length + 1, length + 1, length > 0 ? length - 1 : 0, length > 0 ? length - 1 : 0, some, some,
                                1023, 1024, 1025, 1039, 1040, 1041, 2048, length + 65536, length + WIDE, WIDE);
-    if (call->entry == FORDER || call->entry == CREATE || call->entry == MKDIR || call->entry == REMOVE || call->entry == RENAME)
+    if (call->entry == FORDER || HAS(shapes[call->entry].numbers, PARENT))
         call->length[OWN] %= WIDE; /* these texts are read to their end */
     if (call->entry == RECORD && call->length[OWN] > WIDE && placement == ENDS)
         call->number[AT] += WIDE; /* where the record is now */

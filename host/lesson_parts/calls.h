@@ -5,9 +5,10 @@
 
 #include "host.h"
 
-/* Changes and forder. An accepted one waits. */
+/* Changes and forder. An accepted one waits. A create is by the call for this kind of operation, a remove by the call for this kind
+ * of object, FILE_ENTRY or DIRECTORY_ENTRY. */
 uint64_t do_create(struct host *host, uint64_t program, enum kind kind, uint64_t parent, struct name name, uint64_t object);
-uint64_t do_remove(struct host *host, uint64_t program, uint64_t parent, struct name name);
+uint64_t do_remove(struct host *host, uint64_t program, uint64_t kind, uint64_t parent, struct name name);
 uint64_t do_rename(struct host *host, uint64_t program, uint64_t parent, struct name name, uint64_t second_parent,
                    struct name second_name);
 uint64_t do_write(struct host *host, uint64_t program, uint64_t object, uint64_t offset, const uint8_t *data, uint64_t length);

@@ -108,7 +108,22 @@ uint64_t do_create(struct host *host, uint64_t program, enum kind kind, uint64_t
     return finish(host, &operation, answer, wanted);
 }
 
-uint64_t do_remove(struct host *host, uint64_t program, uint64_t parent, struct name name)
+/* Whether a remove is refused since its object is not of the kind that the call takes. Of what would be returned otherwise, children
+ * and a full log come after that. */
+static int is_other_kind(const struct host *host, uint64_t object, uint64_t kind, uint64_t otherwise)
+{
+    return (otherwise == WB_ACCEPTED || otherwise > WB_WRONG_KIND) && kind_at(&host->own, object) != kind;
+}
+
+static void count_wrong(struct host *host, uint64_t object)
+{
+    const int is_file = kind_at(&host->own, object) == FILE_ENTRY, filled = has_children(&host->own, object);
+    host->wrong_files += (uint64_t)is_file;
+    host->wrong_empty += !is_file && !filled;
+    host->wrong_filled += !is_file && filled;
+}
+
+uint64_t do_remove(struct host *host, uint64_t program, uint64_t kind, uint64_t parent, struct name name)
 {
     struct operation operation = fresh(host, program, REMOVE);
     struct wb_value answer;
@@ -117,7 +132,14 @@ uint64_t do_remove(struct host *host, uint64_t program, uint64_t parent, struct 
     operation.parent = parent;
     put_name(operation.name, &operation.name_length, name);
     wanted = expected(host, &operation, name.length);
-    CALL(host, ENTRY_REMOVE, answer, wb_remove(LENT(host), program, parent, name.bytes, name.length));
+    if (is_other_kind(host, operation.object, kind, wanted)) {
+        wanted = WB_WRONG_KIND;
+        count_wrong(host, operation.object);
+    }
+    if (kind == FILE_ENTRY)
+        CALL(host, ENTRY_REMOVE_FILE, answer, wb_remove_file(LENT(host), program, parent, name.bytes, name.length));
+    else
+        CALL(host, ENTRY_REMOVE_DIRECTORY, answer, wb_remove_directory(LENT(host), program, parent, name.bytes, name.length));
     return finish(host, &operation, answer, wanted);
 }
 

@@ -1,10 +1,29 @@
 #include "actions.h"
 
+/* The object's name is given to the call for objects of the other kind, which refuses it. */
+static void remove_wrongly(struct host *host, uint64_t program, uint64_t object, struct name name)
+{
+    int is_file = kind_at(&host->own, object) == FILE_ENTRY;
+    uint64_t returned = do_remove(host, program, is_file ? DIRECTORY_ENTRY : FILE_ENTRY, parent_at(&host->own, object), name);
+    if (!first_time(host, WRONG_CALL))
+        return;
+    printf("%s tries to remove \"", who(program));
+    print_name(stdout, name.bytes, name.length);
+    printf("\", a %s, by the call for %s; %s.\n", is_file ? "file" : "directory", is_file ? "directories" : "files",
+           wb_text(returned));
+}
+
+/* By the call for objects of its kind; now and then a pupil picks the other one first, with directories more often. */
 static uint64_t remove_object(struct host *host, struct pupil *pupil, uint64_t object)
 {
+    const uint64_t kind = kind_at(&host->own, object);
+    struct name name;
     if (object == 0)
         return WB_ACCEPTED;
-    return do_remove(host, pupil->program, parent_at(&host->own, object), typed(host, name_of(host, object)));
+    name = typed(host, name_of(host, object));
+    if (one_in(&host->clearing, kind == FILE_ENTRY ? 8 : 3))
+        remove_wrongly(host, pupil->program, object, name);
+    return do_remove(host, pupil->program, kind, parent_at(&host->own, object), name);
 }
 
 uint64_t remove_file(struct host *host, struct pupil *pupil)

@@ -19,7 +19,7 @@ enum state { WAITING, SENT, LOST, FETCHED };
 
 /* What is said when it happens for the first time. */
 enum event { FULL_NAME, LONG_NAME, LOG_FULL, NOT_FIRST, ACROSS_END, ONE_SLOT, FOUND_OTHERWISE, CASE_ALONE, TAKEN_OTHERWISE,
-    EVENTS };
+    WRONG_CALL, EVENTS };
 
 struct issued {
     struct operation operation;
@@ -47,10 +47,14 @@ struct host {
     uint64_t pushed, overtaking;     /* sent by push; of these, sent while an earlier one waited */
     uint64_t looked_otherwise;       /* lookups that found an object by another spelling of its path */
     uint64_t taken_otherwise;        /* objects not made, since their name was there in another spelling */
+    uint64_t wrong_files;            /* files given to remove directory */
+    uint64_t wrong_empty;            /* empty directories given to remove file */
+    uint64_t wrong_filled;           /* directories with children given to it */
     const char *server_file;         /* or NULL */
     int went_on;                     /* the file was there already */
     int happened[EVENTS];
-    struct chance chance, typing;    /* how names are typed has a chance of its own, which changes nothing else */
+    struct chance chance, typing;    /* how names are typed has a chance of its own, which changes nothing else; */
+    struct chance clearing;          /* so has the choice between the two calls that remove */
     struct measure measure;
 };
 

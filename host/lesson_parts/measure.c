@@ -7,8 +7,8 @@
 const char *entry_text(enum entry entry)
 {
     static const char *const texts[ENTRIES] = {"wb_format", "wb_mount", "wb_lookup", "wb_list", "wb_stat", "wb_read", "wb_create",
-        "wb_mkdir", "wb_remove", "wb_rename", "wb_write", "wb_setlen", "wb_forder", "wb_push", "wb_fsync", "wb_cut", "wb_take",
-        "wb_renew"};
+        "wb_mkdir", "wb_remove_file", "wb_remove_directory", "wb_rename", "wb_write", "wb_setlen", "wb_forder", "wb_push",
+        "wb_fsync", "wb_cut", "wb_take", "wb_renew"};
     return texts[entry];
 }
 

@@ -16,11 +16,11 @@ static void print_refusals(const struct host *host, enum entry entry)
 static void print_entries(const struct host *host)
 {
     int entry;
-    printf("  entry        calls   mean, ms  refused (returned number: how often)\n");
+    printf("  entry                 calls   mean, ms  refused (returned number: how often)\n");
     for (entry = 0; entry < ENTRIES; entry++) {
         if (host->measure.entries[entry].calls == 0)
             continue;
-        printf("  %-10s %7lu  %9.3f", entry_text(entry), (unsigned long)host->measure.entries[entry].calls,
+        printf("  %-19s %7lu  %9.3f", entry_text(entry), (unsigned long)host->measure.entries[entry].calls,
                (double)host->measure.entries[entry].time / MILLION / (double)host->measure.entries[entry].calls);
         print_refusals(host, entry);
     }
@@ -99,6 +99,14 @@ static void print_spellings(const struct host *host)
     printf("  renames that changed only the case: %lu, of which %lu were lost\n", (unsigned long)count, (unsigned long)lost);
 }
 
+/* How many objects were given to the wrong one of the two calls that remove. */
+static void print_wrong(const struct host *host)
+{
+    printf("  removes refused over the wrong call: %lu (files %lu, empty directories %lu, directories with children %lu)\n",
+           (unsigned long)(host->wrong_files + host->wrong_empty + host->wrong_filled), (unsigned long)host->wrong_files,
+           (unsigned long)host->wrong_empty, (unsigned long)host->wrong_filled);
+}
+
 static uint64_t questions(const struct measure *measure)
 {
     return measure->entries[ENTRY_LOOKUP].calls + measure->entries[ENTRY_LIST].calls + measure->entries[ENTRY_STAT].calls
@@ -114,6 +122,7 @@ void print_summary(const struct host *host, const struct class *class)
     print_kinds(host);
     print_across(host);
     print_spellings(host);
+    print_wrong(host);
     printf("  sent: %lu, of which %lu by push and %lu by fsync; %lu went before one that was issued earlier\n",
            (unsigned long)host->sent_count, (unsigned long)host->pushed, (unsigned long)(host->sent_count - host->pushed),
            (unsigned long)host->overtaking);

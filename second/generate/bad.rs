@@ -38,6 +38,7 @@ fn cases() -> Vec<(&'static str, String)> {
         ("Volumes over the area.", text("give 31 1 4\nfit")),
         ("A log over the area.", text("give 2 1 32\nfit")),
         ("Numbers whose product is over 128 bits.", text("give 18446744073709551615 18446744073709551615 1\nfit")),
+        ("A removal that does not say of what.", text("remove 0 0 =61")),
     ]
 }
 

@@ -113,6 +113,17 @@ impl Builder {
         (self.view().parent(object as usize) as u64, self.view().name(object as usize).to_vec())
     }
 
+    /// A removal of what the name leads to, by the call that takes its kind and now and then by the other; by either
+    /// where it leads to nothing.
+    pub fn removal(&mut self, program: u64, parent: u64, name: &[u8]) -> String {
+        let found = (parent < self.n()).then(|| self.view().seek(parent as usize, name)).flatten();
+        let directory = match found.map(|object| self.view().is_directory(object)) {
+            Some(directory) => directory != self.random.chance(25),
+            None => self.random.chance(50),
+        };
+        format!("{} {program} {parent} {}", if directory { "rmdir" } else { "rmfile" }, hex(name))
+    }
+
     pub fn length_of(&self, object: u64) -> u64 {
         if object < self.n() {
             self.view().length(object as usize) as u64

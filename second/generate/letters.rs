@@ -134,7 +134,8 @@ fn talk(builder: &mut Builder) {
         1 => make(builder, program),
         2 => {
             let (parent, name) = place(builder, object);
-            builder.call(&format!("remove {program} {parent} {}", hex(&name)));
+            let line = builder.removal(program, parent, &name);
+            builder.call(&line);
         }
         3 => rename(builder, program, object),
         4 => {

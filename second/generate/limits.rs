@@ -41,7 +41,10 @@ pub fn near(builder: &mut Builder) {
         3 => read(builder, program),
         4 => format!("create {program} {} {} {}", object(builder), hex(&name(builder)), object(builder)),
         5 => format!("mkdir {program} {} {} {}", object(builder), hex(&name(builder)), object(builder)),
-        6 => format!("remove {program} {} {}", object(builder), hex(&name(builder))),
+        6 => {
+            let (parent, name) = (object(builder), name(builder));
+            builder.removal(program, parent, &name)
+        }
         7 | 8 => {
             let (from, old) = (object(builder), name(builder));
             format!("rename {program} {from} {} {} {}", hex(&old), object(builder), hex(&name(builder)))

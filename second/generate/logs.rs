@@ -1,14 +1,14 @@
-//! Well-formed logs that no run produces, poked into the buffer and then used; and views that differ from what
-//! server and log say.
+//! Well-formed logs that no run produces, poked into the buffer and then used; views that differ from what server and
+//! log say; and removals of what the server has as the other kind.
 
-use crate::builder::Builder;
+use crate::builder::{hex, Builder};
 use crate::records::valid;
 use crate::runs;
 use second::apply::{applies, apply};
 use second::geometry::{LOG_HEAD, SLOT};
 use second::log::{Log, Slot, State};
 use second::record::Record;
-use second::volume::Volume;
+use second::volume::{Volume, FILE, LENGTH_AT};
 
 pub fn logs(builder: &mut Builder) {
     let (n, b, m) = builder.random.pick(&[(7, 1, 8), (6, 2, 6), (9, 1, 12), (8, 1, 10)]);
@@ -32,6 +32,37 @@ pub fn logs(builder: &mut Builder) {
         builder.say(&format!("copy {areas}"));
         use_log(builder);
     }
+    builder.comment("A waiting removal of what the server has as the other kind, now and then with a child.");
+    for _ in 0..2 {
+        turned(builder);
+    }
+}
+
+/// Removes a short file or an empty directory, turns it on the server into an empty one of the other kind, and pushes.
+fn turned(builder: &mut Builder) {
+    builder.say("mount");
+    let view = builder.view();
+    let small = |&object: &usize| !view.is_free(object) && !view.has_children(object) && view.length(object) <= 12;
+    let removable: Vec<usize> = (1..view.geometry.n).filter(small).collect();
+    let free = builder.free();
+    if removable.is_empty() {
+        return;
+    }
+    let object = builder.random.pick(&removable);
+    let (parent, name) = builder.place_of(object as u64);
+    let (file, length) = (builder.view().is_file(object), builder.view().length(object));
+    let entry = builder.geometry().entry_length();
+    builder.say(&format!("{} 1 {parent} {}", if file { "rmfile" } else { "rmdir" }, hex(&name)));
+    builder.say(&format!("poke s {} {}", object * entry, if file { "=02" } else { "=01" }));
+    if length > 0 {
+        builder.say(&format!("poke s {} {}", object * entry + LENGTH_AT, hex(&vec![0; 4 + length])));
+    }
+    if file && !free.is_empty() && builder.random.chance(30) {
+        let child = builder.random.pick(&free) as usize;
+        builder.say(&format!("poke s {} {}", child * entry, hex(&[FILE, 1, object as u8, 0, b'z'])));
+    }
+    builder.say("push 1");
+    builder.say("digest");
 }
 
 /// Writes a random log: lost slots, then waiting ones, rising numbers with gaps, any dependents and marks.

@@ -65,7 +65,7 @@ fn line(kind: Kind, side: Side, program: u64) -> String {
     match kind {
         Kind::Create => format!("create {program} {directory} =6e {fresh}"),
         Kind::MakeDirectory => format!("mkdir {program} {directory} =6e {fresh}"),
-        Kind::Remove => format!("remove {program} {directory} =78"),
+        Kind::Remove => format!("rmfile {program} {directory} =78"),
         Kind::Rename => format!("rename {program} {directory} =78 {directory} =79"),
         Kind::Overwrite => format!("write {program} {file} 2 =414243"),
         Kind::Append => format!("write {program} {file} 8 =4142"),
@@ -96,7 +96,7 @@ fn sharing(earlier: Kind, later: Kind) -> Vec<String> {
     let file = match earlier {
         Kind::Create => 7,
         Kind::MakeDirectory => {
-            lines.extend(["remove 1 1 =6e".to_string(), "create 1 1 =6e 7".to_string()]);
+            lines.extend(["rmdir 1 1 =6e".to_string(), "create 1 1 =6e 7".to_string()]);
             7
         }
         Kind::Remove => {
@@ -115,8 +115,8 @@ fn sharing(earlier: Kind, later: Kind) -> Vec<String> {
 /// The same where the first operation is on file 3, in directory 1 under the name x.
 fn after_file(earlier: Kind, later: Kind) -> Vec<String> {
     match later {
-        Kind::Create => vec!["remove 1 1 =78".to_string(), "create 2 1 =78 3".to_string()],
-        Kind::MakeDirectory => vec!["remove 1 1 =78".to_string(), "mkdir 2 1 =78 3".to_string()],
+        Kind::Create => vec!["rmfile 1 1 =78".to_string(), "create 2 1 =78 3".to_string()],
+        Kind::MakeDirectory => vec!["rmfile 1 1 =78".to_string(), "mkdir 2 1 =78 3".to_string()],
         Kind::Append if earlier == Kind::Append => vec!["write 2 3 10 =4344".to_string()],
         _ => vec![line(later, FIRST, 2)],
     }

@@ -184,7 +184,7 @@ pub fn change(builder: &mut Builder, program: u64) {
         0 => make(builder, program),
         1 => {
             let (parent, name) = place(builder);
-            format!("remove {program} {parent} {}", hex(&name))
+            builder.removal(program, parent, &name)
         }
         2 => rename(builder, program),
         3 => write(builder, program),

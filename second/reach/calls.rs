@@ -15,7 +15,8 @@ pub fn possible(name: &str) -> Option<&'static [u64]> {
         "stat" => &[1, 2, 3, 4, 7, 8],
         "read" => &[1, 2, 3, 4, 7, 8, 9, 12],
         "create" | "mkdir" => &[1, 2, 3, 4, 5, 6, 7, 8, 9, 10, 13, 14],
-        "remove" | "rename" => &[1, 2, 3, 4, 5, 6, 7, 8, 9, 11, 13, 14],
+        "rmfile" => &[1, 2, 3, 4, 5, 6, 7, 8, 9, 13, 14],
+        "rmdir" | "rename" => &[1, 2, 3, 4, 5, 6, 7, 8, 9, 11, 13, 14],
         "write" | "setlen" => &[1, 2, 3, 4, 7, 8, 9, 12, 13, 14],
         "forder" => &[1, 2, 3, 4, 7, 8, 13, 14],
         "push" => &[1, 2, 15, 16, DOES_NOT_APPLY],
@@ -27,9 +28,9 @@ pub fn possible(name: &str) -> Option<&'static [u64]> {
     })
 }
 
-const CALLS: [&str; 19] = [
-    "format", "mount", "lookup", "list", "stat", "read", "create", "mkdir", "remove", "rename", "write", "setlen",
-    "forder", "push", "fsync", "cut", "take", "renew", "record",
+const CALLS: [&str; 20] = [
+    "format", "mount", "lookup", "list", "stat", "read", "create", "mkdir", "rmfile", "rmdir", "rename", "write",
+    "setlen", "forder", "push", "fsync", "cut", "take", "renew", "record",
 ];
 
 #[derive(Default)]

@@ -45,9 +45,9 @@ const WANTED: [&str; 28] = [
 /// Further ones, which are not seen in one call's arguments.
 const BESIDES: [&str; 2] = ["rename only of the case lost", "mount of names that differ by 32 in no letter"];
 /// The calls that check the form of a volume.
-const CHECKING: [&str; 17] = [
-    "mount", "lookup", "list", "stat", "read", "create", "mkdir", "remove", "rename", "write", "setlen", "forder",
-    "push", "fsync", "cut", "take", "renew",
+const CHECKING: [&str; 18] = [
+    "mount", "lookup", "list", "stat", "read", "create", "mkdir", "rmfile", "rmdir", "rename", "write", "setlen",
+    "forder", "push", "fsync", "cut", "take", "renew",
 ];
 
 #[derive(Default)]
@@ -67,7 +67,7 @@ impl Letters {
             ("create" | "mkdir", [_, Word::Number(parent), Word::Text(typed), Word::Number(object)]) => {
                 self.note_make(name, (*parent, typed, *object), code, &view)
             }
-            ("remove", [_, Word::Number(parent), Word::Text(typed)]) if code == 0 => {
+            ("rmfile" | "rmdir", [_, Word::Number(parent), Word::Text(typed)]) if code == 0 => {
                 if let Some(found) = other_spelling(&view, *parent, typed) {
                     self.add(if view.is_file(found) { "remove of a file" } else { "remove of a directory" });
                 }

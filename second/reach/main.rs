@@ -1,6 +1,6 @@
 //! Measures what a corpus of scripts reaches: every call accepted and refused with each number that it can give,
-//! every kind of pair in the precedence rule, writes across the end of a file, names in another spelling, and every
-//! byte in a name. Give it script files; it prints a table, then what is missing, and ends with 1 if anything is.
+//! every kind of pair in the precedence rule, writes across the end of a file, names in another spelling, every byte in
+//! a name, and both removals. Give it script files; it prints a table, then what is missing, and ends with 1 if anything is.
 #![forbid(unsafe_code)]
 
 mod across;
@@ -8,6 +8,7 @@ mod calls;
 mod letters;
 mod name_bytes;
 mod pairs;
+mod removal;
 mod sends;
 
 use across::Across;
@@ -15,6 +16,7 @@ use calls::Calls;
 use letters::Letters;
 use name_bytes::NameBytes;
 use pairs::Pairs;
+use removal::Removal;
 use second::player::{Outcome, Player};
 use second::script::{lines, parse, Line};
 use sends::Sends;
@@ -29,6 +31,7 @@ struct Reach {
     across: Across,
     letters: Letters,
     name_bytes: NameBytes,
+    removal: Removal,
     lines: usize,
     bad_lines: usize,
 }
@@ -39,6 +42,7 @@ impl Reach {
         let mut player = Player::default();
         self.pairs.begin();
         self.across.begin();
+        self.removal.begin();
         for line in lines(script) {
             self.lines += 1;
             let before = player.clone();
@@ -79,6 +83,7 @@ impl Reach {
             self.across.note(name, arguments, code, &mut before, (&old, &new));
             if !damaged {
                 self.letters.note_sends(name, arguments, code, &before, (&old, &new));
+                self.removal.note(name, arguments, code, &before, (&old, &new));
             }
         }
         if name == "record" {
@@ -93,6 +98,7 @@ impl Reach {
         missing.extend(self.across.missing());
         missing.extend(self.letters.missing());
         missing.extend(self.name_bytes.missing());
+        missing.extend(self.removal.missing());
         if self.bad_lines == 0 {
             missing.push("a bad line".to_string());
         }
@@ -110,7 +116,7 @@ fn main() -> std::io::Result<()> {
     let mut text =
         format!("{} scripts, {} lines, {} ending in a bad line\n", files.len(), reach.lines, reach.bad_lines);
     text += &(reach.calls.table() + &reach.pairs.table() + &reach.sends.table() + &reach.across.table());
-    text += &(reach.letters.table() + &reach.name_bytes.table());
+    text += &(reach.letters.table() + &reach.name_bytes.table() + &reach.removal.table());
     missing.iter().for_each(|what| text += &format!("missing: {what}\n"));
     if missing.is_empty() {
         text += "nothing is missing\n";

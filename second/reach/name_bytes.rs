@@ -45,7 +45,7 @@ impl NameBytes {
             return;
         }
         match (name, arguments) {
-            ("create" | "mkdir" | "remove" | "rename", _) => {
+            ("create" | "mkdir" | "rmfile" | "rmdir" | "rename", _) => {
                 self.note_texts(&texts(arguments), code, NAME_TAKEN, NAME_REFUSED)
             }
             ("lookup", [_, Argument::Bytes(path)]) if !bad_path(path) => {

@@ -7,6 +7,7 @@ use crate::names::{bad_name, long_name};
 use crate::record::{Kind, Record, LONGEST_LIST};
 use crate::refusal::{first, Refusal};
 use crate::session::{Found, Lent};
+use crate::volume::{DIRECTORY, FILE};
 
 /// Creates an empty file under an unused object number of the caller's choice.
 pub fn create(lent: &mut Lent, program: u64, parent: u64, name: &[u8], object: u64) -> Result<u64, Refusal> {
@@ -40,11 +41,23 @@ fn make(lent: &mut Lent, kind: Kind, program: u64, parent: u64, name: &[u8], obj
     Ok(lent.issue(geometry, log, program, record))
 }
 
-/// Removes a file or an empty directory; it is logged with the name as typed.
-pub fn remove(lent: &mut Lent, program: u64, parent: u64, name: &[u8]) -> Result<u64, Refusal> {
+/// Removes a file; it is logged with the name as typed.
+pub fn remove_file(lent: &mut Lent, program: u64, parent: u64, name: &[u8]) -> Result<u64, Refusal> {
+    remove(lent, FILE, program, parent, name)
+}
+
+/// Removes an empty directory; it is logged with the name as typed.
+pub fn remove_directory(lent: &mut Lent, program: u64, parent: u64, name: &[u8]) -> Result<u64, Refusal> {
+    remove(lent, DIRECTORY, program, parent, name)
+}
+
+/// Removes an object of the kind that the call takes. An object of the other kind is refused with 9 before it is asked
+/// for children (document 02, K4).
+fn remove(lent: &mut Lent, taken: u8, program: u64, parent: u64, name: &[u8]) -> Result<u64, Refusal> {
     let now = lent.look();
     let place = parent as usize;
     let found = || now.view().seek(place, name);
+    let other_kind = || found().is_some_and(|object| now.view().kind(object) != taken);
     first(&[
         (Refusal::WrongBuffer, &|| now.wrong_buffer()),
         (Refusal::Damaged, &|| now.damaged()),
@@ -54,7 +67,7 @@ pub fn remove(lent: &mut Lent, program: u64, parent: u64, name: &[u8]) -> Result
         (Refusal::LongName, &|| long_name(name)),
         (Refusal::BadNumber, &|| now.bad_number(parent)),
         (Refusal::NoObject, &|| now.view().is_free(place) || lacks(&now, place, name)),
-        (Refusal::WrongKind, &|| now.view().is_file(place)),
+        (Refusal::WrongKind, &|| now.view().is_file(place) || other_kind()),
         (Refusal::NotEmpty, &|| found().is_some_and(|object| now.view().has_children(object))),
         (Refusal::LogFull, &|| now.log_full(1)),
         (Refusal::Spent, &|| now.spent(1)),

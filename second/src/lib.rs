@@ -1,4 +1,4 @@
-//! An ordered write-behind volume, as document 01 and the requests K1 to K3 of document 02 describe it.
+//! An ordered write-behind volume, as document 01 and the requests K1 to K4 of document 02 describe it.
 //!
 //! The calls take a geometry, numbers and byte slices and answer with the numbers of document 01:
 //! see [`session`] (format, mount), [`questions`], [`changes`], [`sends`] and [`losses`].
@@ -35,7 +35,7 @@ pub mod sends;
 pub mod session;
 pub mod volume;
 
-pub use changes::{create, forder, make_directory, remove, rename, set_length, write};
+pub use changes::{create, forder, make_directory, remove_directory, remove_file, rename, set_length, write};
 pub use losses::{read_record, renew, take, Head};
 pub use questions::{list, lookup, read, stat, Stat};
 pub use refusal::Refusal;

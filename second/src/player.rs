@@ -158,7 +158,8 @@ fn play_bytes_call(lent: &mut Lent, name: &str, arguments: &mut Arguments) -> St
             let call = if name == "create" { create } else { make_directory };
             with_result(call(lent, first_number, parent, &name_bytes, object))
         }
-        "remove" => with_result(remove(lent, first_number, arguments.number(), &arguments.bytes())),
+        "rmfile" => with_result(remove_file(lent, first_number, arguments.number(), &arguments.bytes())),
+        "rmdir" => with_result(remove_directory(lent, first_number, arguments.number(), &arguments.bytes())),
         "rename" => {
             let (parent, name) = (arguments.number(), arguments.bytes());
             let (second_parent, second_name) = (arguments.number(), arguments.bytes());

@@ -23,7 +23,7 @@ pub enum Line {
 }
 
 /// Every command with its arguments: `a` an area, `n` a number, `=` bytes.
-pub const COMMANDS: [(&str, &str); 26] = [
+pub const COMMANDS: [(&str, &str); 27] = [
     ("give", "nnn"),
     ("size", "nnn"),
     ("fit", ""),
@@ -39,7 +39,8 @@ pub const COMMANDS: [(&str, &str); 26] = [
     ("read", "nnn="),
     ("create", "nn=n"),
     ("mkdir", "nn=n"),
-    ("remove", "nn="),
+    ("rmfile", "nn="),
+    ("rmdir", "nn="),
     ("rename", "nn=n="),
     ("write", "nnn="),
     ("setlen", "nnn"),

@@ -14,6 +14,8 @@ struct Run {
     register: Register,
     random: Random,
     accepted: BTreeSet<&'static str>,
+    /// The refusals of removals: whether of a directory, and the number.
+    refused: BTreeSet<(bool, u64)>,
     subsets: (usize, usize),
 }
 
@@ -27,7 +29,7 @@ impl Run {
         let (n, b, m) = (4 + random.below(5), 1 + random.below(2), 3 + random.below(6));
         let world = World::new(n, b, m);
         let register = Register::new(Tree::only_root());
-        Run { world, register, random, accepted: BTreeSet::new(), subsets: (0, 0) }
+        Run { world, register, random, accepted: BTreeSet::new(), refused: BTreeSet::new(), subsets: (0, 0) }
     }
 
     fn program(&mut self) -> u64 {
@@ -87,9 +89,9 @@ impl Run {
         let calls = self.register.history.len();
         let accepted = match self.random.below(100) {
             0..=13 => self.make(),
-            14..=18 => self.remove(),
-            19..=30 => self.rename(),
-            31..=51 => self.write(),
+            14..=20 => self.remove(),
+            21..=31 => self.rename(),
+            32..=51 => self.write(),
             52..=55 => self.set_length(),
             56..=59 => self.forder(),
             60..=72 => self.question(),
@@ -155,15 +157,58 @@ impl Run {
         })
     }
 
+    /// A removal by the call that takes the kind of what the name leads to, now and then by the other (document 02, K4).
     fn remove(&mut self) -> bool {
         let (program, (parent, name)) = (self.program(), self.place());
-        let answer = self.world.remove(program, parent, &name);
-        let there = self.register.view().child(parent as u16, &name).is_some();
-        assert!(!there || answer != Err(8), "found by whatever spelling");
-        self.changed("remove", answer, program, |view| {
+        let view = self.register.view();
+        let directory = match view.child(parent as u16, &name) {
+            Some(object) => view.directory(object) != self.random.chance(30),
+            None => self.random.chance(50),
+        };
+        let expected = self.judge_removal(directory, program, parent, &name);
+        let answer = match directory {
+            true => self.world.rmdir(program, parent, &name),
+            false => self.world.rmfile(program, parent, &name),
+        };
+        assert_eq!(answer, expected);
+        let call = match (directory, answer) {
+            (_, Err(number)) => {
+                self.refused.insert((directory, number));
+                return false;
+            }
+            (true, _) => "rmdir",
+            (false, _) => "rmfile",
+        };
+        self.changed(call, answer, program, |view| {
             let object = view.child(parent as u16, &name).unwrap();
             What::Remove { parent: parent as u16, name, object }
         })
+    }
+
+    /// What a removal of a directory, or of a file, must give, reckoned from the register.
+    fn judge_removal(&self, directory: bool, program: u64, parent: u64, name: &[u8]) -> common::Answer {
+        if self.register.marks() >> program & 1 == 1 {
+            return Err(4);
+        }
+        if parent >= self.world.n {
+            return Err(7);
+        }
+        let view = self.register.view();
+        let Some(place) = view.0.get(&(parent as u16)) else { return Err(8) };
+        if !place.directory {
+            return Err(9);
+        }
+        let Some(object) = view.child(parent as u16, name) else { return Err(8) };
+        if view.directory(object) != directory {
+            return Err(9);
+        }
+        if !view.childless(object) {
+            return Err(11);
+        }
+        if self.world.m == self.register.used_slots() {
+            return Err(13);
+        }
+        Ok(self.number())
     }
 
     fn rename(&mut self) -> bool {
@@ -463,9 +508,34 @@ impl Run {
     }
 }
 
+/// What must be accepted in some run, in the order of the alphabet.
+const CALLS: [&str; 21] = [
+    "create",
+    "cut",
+    "forder",
+    "fsync",
+    "fsync with 17",
+    "list",
+    "lookup",
+    "mkdir",
+    "mount",
+    "push",
+    "read",
+    "rename",
+    "rename only of the case",
+    "renew",
+    "rmdir",
+    "rmfile",
+    "setlen",
+    "stat",
+    "take",
+    "write",
+    "write across the end",
+];
+
 #[test]
 fn random_runs_keep_demand_3() {
-    let mut accepted = BTreeSet::new();
+    let (mut accepted, mut refused) = (BTreeSet::new(), BTreeSet::new());
     let mut subsets = (0, 0);
     for seed in 0..400 {
         let mut run = Run::new(seed);
@@ -477,30 +547,13 @@ fn random_runs_keep_demand_3() {
             }
         }
         accepted.extend(run.accepted);
+        refused.extend(run.refused);
         subsets = (subsets.0 + run.subsets.0, subsets.1 + run.subsets.1);
     }
-    let all = [
-        "create",
-        "cut",
-        "forder",
-        "fsync",
-        "fsync with 17",
-        "list",
-        "lookup",
-        "mkdir",
-        "mount",
-        "push",
-        "read",
-        "remove",
-        "rename",
-        "rename only of the case",
-        "renew",
-        "setlen",
-        "stat",
-        "take",
-        "write",
-        "write across the end",
-    ];
-    assert_eq!(accepted.into_iter().collect::<Vec<_>>(), all, "every call was accepted in some run");
+    assert_eq!(accepted.into_iter().collect::<Vec<_>>(), CALLS, "every call was accepted in some run");
+    let of_files = [4, 8, 9, 13].map(|number| (false, number));
+    let of_directories = [4, 8, 9, 11, 13].map(|number| (true, number));
+    let mut wanted = of_files.into_iter().chain(of_directories);
+    assert!(wanted.all(|one| refused.contains(&one)), "removals were refused in every way: {refused:?}");
     assert!(subsets.0 > 1000 && subsets.1 > 1000, "many sets of both sorts were tried: {subsets:?}");
 }

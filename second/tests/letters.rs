@@ -162,7 +162,9 @@ fn remove_and_rename_by_the_examples() {
         let mut world = World::new(3, 1, 4);
         world.create(0, 0, &one, 1).unwrap();
         let found = if same { Ok(2) } else { Err(8) };
-        assert_eq!(world.clone().remove(0, 0, &other), found, "{one:?} and {other:?}");
+        let found_as_directory = if same { Err(9) } else { Err(8) };
+        assert_eq!(world.clone().rmfile(0, 0, &other), found, "{one:?} and {other:?}");
+        assert_eq!(world.rmdir(0, 0, &other), found_as_directory, "{one:?} and {other:?}");
         assert_eq!(world.clone().rename(0, 0, &other, 0, b"%"), found, "{one:?} and {other:?}");
         assert_eq!(world.rename(0, 0, &one, 0, &other), Ok(2));
         assert_eq!(records(&world)[1], rename(2, 1, (0, &one), (0, &other), None), "nothing is displaced");
@@ -237,14 +239,15 @@ fn every_call_refuses_two_such_names_with_2() {
     poke_name(&mut server.server, at, b"DOCS");
     let mut view = good.clone();
     poke_name(&mut view.view, at, b"DOCS");
-    let calls: [(&str, fn(&mut World) -> u64); 17] = [
+    let calls: [(&str, fn(&mut World) -> u64); 18] = [
         ("lookup", |world| world.lookup(0, b"/").unwrap_err()),
         ("list", |world| world.list(0, 0, &mut [0; 99]).unwrap_err()),
         ("stat", |world| world.stat(0, 0).unwrap_err()),
         ("read", |world| world.read(0, 1, 0, &mut [0; 9]).unwrap_err()),
         ("create", |world| world.create(0, 2, b"y", 7).unwrap_err()),
         ("mkdir", |world| world.mkdir(0, 2, b"y", 7).unwrap_err()),
-        ("remove", |world| world.remove(0, 0, b"x").unwrap_err()),
+        ("rmfile", |world| world.rmfile(0, 0, b"x").unwrap_err()),
+        ("rmdir", |world| world.rmdir(0, 0, b"misc").unwrap_err()),
         ("rename", |world| world.rename(0, 0, b"x", 0, b"X").unwrap_err()),
         ("write", |world| world.write(0, 6, 0, b"a").unwrap_err()),
         ("setlen", |world| world.setlen(0, 6, 1).unwrap_err()),
@@ -309,7 +312,7 @@ fn a_list_has_the_names_as_typed() {
 #[test]
 fn remove_by_another_spelling_is_logged_as_typed() {
     let mut world = with_names();
-    assert_eq!(world.remove(3, 0, b"TASK"), Ok(1));
+    assert_eq!(world.rmfile(3, 0, b"TASK"), Ok(1));
     let record = Record { program: 3, ..named(1, Kind::Remove, 1, 0, b"TASK") };
     assert_eq!(world.log_now().slots, [waiting(record.clone())]);
     assert_eq!(world.lookup(4, b"/Task"), Err(8));
@@ -400,8 +403,11 @@ fn what_another_spelling_finds_is_judged() {
     assert_eq!(world.rename(1, 0, b"MISC", 0, b"TASK"), Err(9), "a directory onto a file");
     assert_eq!(world.rename(1, 0, b"MISC", 0, b"docs"), Err(11));
     assert_eq!(world.rename(1, 0, b"MISC", 2, b"MISC"), Err(9), "a directory stays in its parent");
-    assert_eq!(world.remove(1, 0, b"DOCS"), Err(11));
-    assert_eq!(world.remove(1, 0, b"DOC"), Err(8));
+    assert_eq!(world.rmdir(1, 0, b"DOCS"), Err(11));
+    assert_eq!(world.rmfile(1, 0, b"DOCS"), Err(9));
+    assert_eq!(world.rmfile(1, 0, b"MISC"), Err(9));
+    assert_eq!(world.rmdir(1, 0, b"TASK"), Err(9));
+    assert_eq!(world.rmdir(1, 0, b"DOC"), Err(8));
     assert_eq!(world.rename(1, 0, b"DOC", 0, b"x"), Err(8));
     assert_eq!(world.create(1, 0, b"DOCS", 1), Err(10));
     assert!(world == with_names(), "a refusal changes nothing");
@@ -492,7 +498,7 @@ fn applying_to_a_server_with_another_spelling() {
 fn a_spelling_changed_behind_the_view() {
     let mut world = with_names();
     world.rename(1, 0, b"TASK", 0, b"tASK").unwrap();
-    world.remove(1, 2, b"NOTES").unwrap();
+    world.rmfile(1, 2, b"NOTES").unwrap();
     let at = [1, 3].map(|object| world.entry_at(object));
     poke_name(&mut world.server, at[0], b"TAsk");
     poke_name(&mut world.server, at[1], b"notes");

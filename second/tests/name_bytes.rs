@@ -23,7 +23,8 @@ fn calls_by_the_examples() {
         let answer = |accepted| if good { accepted } else { Err(5) };
         let mut world = World::new(4, 1, 4);
         world.create(0, 0, b"xyz", 1).unwrap();
-        assert_eq!(world.remove(0, 0, &name), answer(Err(8)), "{name:?}");
+        assert_eq!(world.rmfile(0, 0, &name), answer(Err(8)), "{name:?}");
+        assert_eq!(world.rmdir(0, 0, &name), answer(Err(8)), "{name:?}");
         assert_eq!(world.rename(0, 0, &name, 0, b"v"), answer(Err(8)), "{name:?}");
         assert_eq!(world.clone().rename(0, 0, b"xyz", 0, &name), answer(Ok(2)), "{name:?}");
         assert_eq!(world.clone().mkdir(0, 0, &name, 2), answer(Ok(2)), "{name:?}");
@@ -33,7 +34,8 @@ fn calls_by_the_examples() {
         assert_eq!(world.lookup(0, &[b"/", name.as_slice()].concat()), found, "{name:?}");
         if good {
             assert_eq!(world.view[world.entry_at(2) + 4..][..name.len()], name, "stored as given");
-            assert_eq!(world.remove(0, 0, &name), Ok(3), "{name:?}");
+            assert_eq!(world.rmdir(0, 0, &name), Err(9), "{name:?}");
+            assert_eq!(world.rmfile(0, 0, &name), Ok(3), "{name:?}");
         }
     }
 }
@@ -179,7 +181,7 @@ mod sends;
 mod session;
 #[path = "../src/volume.rs"]
 mod volume;
-pub use changes::{create, forder, make_directory, remove, rename, set_length, write};
+pub use changes::{create, forder, make_directory, remove_directory, remove_file, rename, set_length, write};
 pub use losses::{read_record, renew, take};
 pub use questions::{list, lookup, read, stat};
 pub use sends::{cut, fsync, push};

@@ -42,7 +42,8 @@ impl Setup {
             "read" => one(world.read(*program, *object, *number, bytes)),
             "create" => one(world.create(*program, *parent, name, *object)),
             "mkdir" => one(world.mkdir(*program, *parent, name, *object)),
-            "remove" => one(world.remove(*program, *parent, name)),
+            "rmfile" => one(world.rmfile(*program, *parent, name)),
+            "rmdir" => one(world.rmdir(*program, *parent, name)),
             "rename" => one(world.rename(*program, *parent, name, *second_parent, second_name)),
             "write" => one(world.write(*program, *object, *number, bytes)),
             "setlen" => one(world.setlen(*program, *object, *number)),
@@ -301,15 +302,37 @@ fn create_and_make_directory() {
     }
 }
 
-#[test]
-fn remove() {
-    let mut setup = base("remove");
-    setup.name = b"f".to_vec();
+/// The faults of both removals; an object of the other kind is one of each.
+fn removal_faults() -> Vec<Fault> {
     let mut faults = with_log_faults(name_faults());
     faults.push(fault(7, &["parent"], |s| s.parent = 8));
+    faults.push(fault(7, &["parent"], |s| s.parent = 1 << 32));
     faults.push(fault(8, &["parent"], |s| s.parent = 7));
     faults.push(fault(8, &["parent", "name"], |s| s.name = b"y".to_vec()));
+    faults.push(fault(8, &["parent", "name"], |s| s.name = b"x".to_vec()));
     faults.push(fault(9, &["parent"], |s| s.parent = 1));
+    faults
+}
+
+#[test]
+fn remove_file() {
+    let mut setup = base("rmfile");
+    setup.name = b"f".to_vec();
+    let mut faults = removal_faults();
+    faults.push(fault(9, &["parent", "name"], |s| s.name = b"d".to_vec()));
+    faults.push(fault(9, &["parent", "name"], |s| s.name = b"D".to_vec()));
+    faults.push(fault(9, &["parent", "name"], |s| s.name = b"e".to_vec()));
+    check(setup, faults);
+}
+
+#[test]
+fn remove_directory() {
+    let mut setup = base("rmdir");
+    setup.name = b"d".to_vec();
+    let mut faults = removal_faults();
+    faults.push(fault(9, &["parent", "name"], |s| s.name = b"f".to_vec()));
+    faults.push(fault(9, &["parent", "name"], |s| s.name = b"F".to_vec()));
+    faults.push(fault(9, &["parent", "name"], |s| (s.parent, s.name) = (3, b"x".to_vec())));
     faults.push(fault(11, &["parent", "name"], |s| s.name = b"e".to_vec()));
     check(setup, faults);
 }

@@ -169,7 +169,7 @@ fn kinds_of(c: Command) -> Kinds
             2,
             [b'n', b'=', 0, 0, 0],
         ),
-        Command::List | Command::Remove => wanted(3, [b'n', b'n', b'=', 0, 0]),
+        Command::List | Command::Rmfile | Command::Rmdir => wanted(3, [b'n', b'n', b'=', 0, 0]),
         Command::Read | Command::Write => wanted(4, [b'n', b'n', b'n', b'=', 0]),
         Command::Create | Command::Mkdir => wanted(4, [b'n', b'n', b'=', b'n', 0]),
         Command::Rename => wanted(5, [b'n', b'n', b'=', b'n', b'=']),

@@ -18,7 +18,8 @@ pub enum Command {
     Read,
     Create,
     Mkdir,
-    Remove,
+    Rmfile,
+    Rmdir,
     Rename,
     Write,
     Setlen,
@@ -52,9 +53,9 @@ pub fn writes_buffer(c: Command) -> bool {
 // Whether a command is a call that is given bytes.
 pub fn takes_bytes(c: Command) -> bool {
     match c {
-        Command::Lookup | Command::Create | Command::Mkdir | Command::Remove | Command::Rename =>
+        Command::Lookup | Command::Create | Command::Mkdir | Command::Rmfile | Command::Rmdir =>
             true,
-        Command::Write | Command::Forder | Command::Record => true,
+        Command::Rename | Command::Write | Command::Forder | Command::Record => true,
         _ => false,
     }
 }
@@ -147,8 +148,11 @@ fn change_command(w: &[u8]) -> Command {
     if same(w, b"mkdir") {
         return Command::Mkdir;
     }
-    if same(w, b"remove") {
-        return Command::Remove;
+    if same(w, b"rmfile") {
+        return Command::Rmfile;
+    }
+    if same(w, b"rmdir") {
+        return Command::Rmdir;
     }
     if same(w, b"rename") {
         return Command::Rename;

@@ -1,4 +1,4 @@
--- The tables of create, make directory, remove and rename, part by part. Assumes nothing.
+-- The tables of create, make directory, the removes and rename, part by part. Assumes nothing.
 use Prim.Native.Nat.{ℕ, _<_, _≤_}
 use native.Mathlib.Omega.{arith}
 use mathlib.Core.Path.{_≡_, refl, sym, ap, _∙_}
@@ -12,7 +12,7 @@ use Rattle.returned.specs.Returned
 use Rattle.names.specs.declared.NameText.{NameText}
 use Rattle.names.specs.declared.NameText.the-variants.{Fine, Bad, Long}
 use Rattle.names.specs.Name.{nameTextOf, nameNumber}
-use Rattle.entry.specs.Entry.{isUsed, isDirectory, kindNumber}
+use Rattle.entry.specs.Entry.{Entry, isUsed, isDirectory, kindNumber}
 use Rattle.search.specs.Volume.{Volume, entryAt, search, hasChildren}
 use Rattle.search.specs.SearchLaws.{search-found, named-inv}
 use Rattle.applies.specs.Apply.{isAbsent}
@@ -25,7 +25,7 @@ use Rattle.session.specs.Code.Table.{firstNumber}
 use Rattle.session.specs.RefusalLaws.{lower-is}
 use Rattle.admission.specs.Code.Objects.{directoryRows}
 use Rattle.changing.specs.ChangeLaws.{stops-first, goes-on}
-use Rattle.naming.specs.Code.Rows.{textRows, foundRows, moveRows, Finds, Moves}
+use Rattle.naming.specs.Code.Rows.{textRows, foundRows, choiceRows, moveRows, Finds, Moves}
 
 -- A text's rows give the number of the text.
 pub text-number : (n : List ℕ) → nameNumber (nameTextOf n) ≡ firstNumber (textRows n)
@@ -125,6 +125,29 @@ module _ (v : Volume) (d : ℕ) (n : List ℕ) (o : ℕ) where
       unfolding firstNumber
       none-taken z u h = new-decided z 0 (rw (h, u))
 
+-- A place, and what is asked of what was found there: a number of the place refuses, and with none what was found decides.
+module _ (p q r w x : Bool) (k : ℕ) (e : k ≡ firstNumber (row 7 p ∷ row 8 q ∷ row 9 r ∷ [])) where
+  place-refused : (k ≡ 0 → ⊥) → k ≡ firstNumber (row 7 p ∷ row 8 q ∷ row 9 (r || w) ∷ row 11 x ∷ [])
+  unfolding firstNumber
+  place-refused z = go p q r e
+    where
+      go : (a b c : Bool) → k ≡ firstNumber (row 7 a ∷ row 8 b ∷ row 9 c ∷ []) → k ≡ firstNumber (row 7 a ∷ row 8 b ∷ row 9 (c || w) ∷ row 11 x ∷ [])
+      go true b c h = h
+      go false true c h = h
+      go false false true h = h
+      go false false false h = absurd (z h)
+
+  place-decided : k ≡ 0 → firstNumber (row 9 w ∷ row 11 x ∷ []) ≡ firstNumber (row 7 p ∷ row 8 q ∷ row 9 (r || w) ∷ row 11 x ∷ [])
+  unfolding firstNumber
+  place-decided z = go p q r (sym e ∙ z)
+    where
+      go : (a b c : Bool) → firstNumber (row 7 a ∷ row 8 b ∷ row 9 c ∷ []) ≡ 0
+          → firstNumber (row 9 w ∷ row 11 x ∷ []) ≡ firstNumber (row 7 a ∷ row 8 b ∷ row 9 (c || w) ∷ row 11 x ∷ [])
+      go true b c h = absurd (omega arith)
+      go false true c h = absurd (omega arith)
+      go false false true h = absurd (omega arith)
+      go false false false h = refl
+
 -- Two names: the lower number of their texts.
 abbrev pub textsRows : List ℕ → List ℕ → List Row
 textsRows n s = row Returned.badName (isBad (nameTextOf n) || isBad (nameTextOf s)) ∷ row Returned.longName (isLong (nameTextOf n) || isLong (nameTextOf s)) ∷ []
@@ -221,65 +244,58 @@ module _ (v : Volume) (d : ℕ) (n : List ℕ) (e : ℕ) (s : List ℕ) where
 
     -- A number of either side refuses.
     pub places-refused : (k ≡ 0 → ⊥) → k ≡ firstNumber (placesRows v d n e s)
-    unfolding firstNumber
-    places-refused z = sym (go (noNumbers v d e) (noObjects v d n e) (noDirectories v d e) (ofFound (search v d n) (wrongRename v d e s)) (displacesFull v d n e s) (sym whole))
-      where
-        go : (p q r w x : Bool) → firstNumber (row 7 p ∷ row 8 q ∷ row 9 r ∷ []) ≡ k → firstNumber (row 7 p ∷ row 8 q ∷ row 9 (r || w) ∷ row 11 x ∷ []) ≡ k
-        go true q r w x h = h
-        go false true r w x h = h
-        go false false true w x h = h
-        go false false false w x h = absurd (z (sym h))
+    places-refused z = place-refused (noNumbers v d e) (noObjects v d n e) (noDirectories v d e) (ofFound (search v d n) (wrongRename v d e s)) (displacesFull v d n e s) k whole z
 
     -- With none, what was found decides.
     pub places-decided : k ≡ 0 → (o : ℕ) → search v d n ≡ some o → firstNumber (moveRows v d e o (displaced o (search v e s))) ≡ firstNumber (placesRows v d n e s)
-    unfolding firstNumber
     places-decided z o h =
         ap (λ (f : Option ℕ). firstNumber (row 9 (ofFound f (wrongRename v d e s)) ∷ row 11 (ofFound f (λ i. ofFound (displaced i (search v e s)) (hasChildren v))) ∷ [])) (sym h)
-        ∙ sym (go (noNumbers v d e) (noObjects v d n e) (noDirectories v d e) (ofFound (search v d n) (wrongRename v d e s)) (displacesFull v d n e s) (sym whole ∙ z))
-      where
-        go : (p q r w x : Bool) → firstNumber (row 7 p ∷ row 8 q ∷ row 9 r ∷ []) ≡ 0
-            → firstNumber (row 7 p ∷ row 8 q ∷ row 9 (r || w) ∷ row 11 x ∷ []) ≡ firstNumber (row 9 w ∷ row 11 x ∷ [])
-        go true q r w x y = absurd (omega arith)
-        go false true r w x y = absurd (omega arith)
-        go false false true w x y = absurd (omega arith)
-        go false false false w x y = refl
+        ∙ place-decided (noNumbers v d e) (noObjects v d n e) (noDirectories v d e) (ofFound (search v d n) (wrongRename v d e s)) (displacesFull v d n e s) k whole z
 
 -- What a search finds is an object of the volume, and not the root.
 pub found-object : (v : Volume) (d : ℕ) (n : List ℕ) (i : ℕ) → search v d n ≡ some i → (i < length v) × (i ≡ 0 → ⊥)
 found-object v d n i h = let f = search-found v d n i h in (f .1, named-inv v d n i (f .0) .other)
 
--- Remove, part by part: the text, the name, and whether what was found is empty.
-abbrev pub emptyRows : Volume → ℕ → List ℕ → List Row
-emptyRows v d n = row Returned.notEmpty (ofFound (search v d n) (hasChildren v)) ∷ []
+-- What was found and is to be removed, test by test.
+module _ (takes : Entry → Bool) (v : Volume) (o : ℕ) where
+  pub choice-wrong : takes (entryAt v o) ≡ false → 9 ≡ firstNumber (choiceRows takes v o)
+  unfolding firstNumber
+  choice-wrong h = rw h
 
-empty-number : (v : Volume) (d : ℕ) (n : List ℕ) (o : ℕ) → search v d n ≡ some o → (t : Bool) → hasChildren v o ≡ t → firstNumber (emptyRows v d n) ≡ cond t 11 0
-unfolding firstNumber
-empty-number v d n o h t k = rw (h, k)
+  pub choice-full : takes (entryAt v o) ≡ true → hasChildren v o ≡ true → 11 ≡ firstNumber (choiceRows takes v o)
+  unfolding firstNumber
+  choice-full h k = rw (h, k)
 
-module _ (v : Volume) (d : ℕ) (n : List ℕ) (t : ℕ) (text : t ≡ firstNumber (textRows n)) where
-  pub remove-text : (t ≡ 0 → ⊥) → Finds v d n (removeRows v d n) t 0
-  remove-text z = record { number = stops-first (textRows n) (foundRows v d n ++ emptyRows v d n) t text z; found = λ y. absurd (z y) }
+  pub choice-fine : takes (entryAt v o) ≡ true → hasChildren v o ≡ false → 0 ≡ firstNumber (choiceRows takes v o)
+  unfolding firstNumber
+  choice-fine h k = rw (h, k)
+
+-- What is asked after the text of a name that is to be removed.
+abbrev pub removalRows : (Entry → Bool) → Volume → ℕ → List ℕ → List Row
+removalRows takes v d n =
+    row Returned.badNumber (outside v d)
+    ∷ row Returned.noObject (isFree v d || (isDirectory (entryAt v d) && isAbsent (search v d n)))
+    ∷ row Returned.wrongKind (not (isDirectory (entryAt v d)) || ofFound (search v d n) (λ o. not (takes (entryAt v o))))
+    ∷ row Returned.notEmpty (ofFound (search v d n) (hasChildren v))
+    ∷ []
+
+-- Either remove, part by part: the text, the name, and what was found.
+module _ (takes : Entry → Bool) (v : Volume) (d : ℕ) (n : List ℕ) (t : ℕ) (text : t ≡ firstNumber (textRows n)) where
+  pub remove-text : (t ≡ 0 → ⊥) → Finds v d n (removeRows takes v d n) t 0
+  remove-text z = record { number = stops-first (textRows n) (removalRows takes v d n) t text z; found = λ y. absurd (z y) }
 
   module _ (z : t ≡ 0) (k o : ℕ) (f : Finds v d n (foundRows v d n) k o) where
-    behind : (j : ℕ) → j ≡ firstNumber (foundRows v d n ++ emptyRows v d n) → j ≡ firstNumber (removeRows v d n)
-    behind j e = goes-on 0 (textRows n) (foundRows v d n ++ emptyRows v d n) refl t j text z e
+    behind : (j : ℕ) → j ≡ firstNumber (removalRows takes v d n) → j ≡ firstNumber (removeRows takes v d n)
+    behind j e = goes-on 0 (textRows n) (removalRows takes v d n) refl t j text z e
 
-    pub remove-refused : (k ≡ 0 → ⊥) → Finds v d n (removeRows v d n) k o
-    remove-refused y = record { number = behind k (stops-first (foundRows v d n) (emptyRows v d n) k (f .number) y); found = λ x. absurd (y x) }
+    pub remove-refused : (k ≡ 0 → ⊥) → Finds v d n (removeRows takes v d n) k o
+    remove-refused y = record { number = behind k (place-refused _ _ _ _ _ k (f .number) y); found = λ x. absurd (y x) }
 
-    pub remove-full : k ≡ 0 → hasChildren v o ≡ true → Finds v d n (removeRows v d n) 11 0
-    remove-full y h =
-        record {
-          number = behind 11 (goes-on 0 (foundRows v d n) (emptyRows v d n) refl k 11 (f .number) y (sym (empty-number v d n o (f .found y) true h)));
-          found = λ x. absurd (omega arith);
-        }
-
-    pub remove-fine : k ≡ 0 → hasChildren v o ≡ false → Finds v d n (removeRows v d n) k o
-    remove-fine y h =
-        record {
-          number = behind k (goes-on 0 (foundRows v d n) (emptyRows v d n) refl k k (f .number) y (y ∙ sym (empty-number v d n o (f .found y) false h)));
-          found = f .found;
-        }
+    pub remove-found : k ≡ 0 → (j : ℕ) → j ≡ firstNumber (choiceRows takes v o) → Finds v d n (removeRows takes v d n) j o
+    remove-found y j e =
+        let is = f .found y in
+        let asked = ap (λ (w : Option ℕ). firstNumber (row 9 (ofFound w (λ i. not (takes (entryAt v i)))) ∷ row 11 (ofFound w (hasChildren v)) ∷ [])) (sym is) in
+        record { number = behind j (e ∙ asked ∙ place-decided _ _ _ _ _ k (f .number) y); found = λ x. is }
 
 -- What a rename displaces, as a number: 0 is none.
 module _ (v : Volume) (o e : ℕ) (s : List ℕ) where

@@ -1,4 +1,4 @@
-// Create, make directory, remove and rename: the calls that change names (document 01, "Calls").
+// Create, make directory, remove file, remove directory and rename: the calls that change names (document 01, "Calls").
 pub mod make;
 pub mod place;
 pub mod remove;

@@ -20,7 +20,8 @@ use writebehind::wb_mount;
 use writebehind::wb_push;
 use writebehind::wb_read;
 use writebehind::wb_record;
-use writebehind::wb_remove;
+use writebehind::wb_remove_directory;
+use writebehind::wb_remove_file;
 use writebehind::wb_rename;
 use writebehind::wb_renew;
 use writebehind::wb_setlen;
@@ -116,7 +117,18 @@ fn call_bytes(
         Command::Lookup => value(wb_lookup(g.n, g.b, g.m, server, view, log, a.x, first)),
         Command::Create => value(wb_create(g.n, g.b, g.m, server, view, log, a.x, a.y, first, a.z)),
         Command::Mkdir => value(wb_mkdir(g.n, g.b, g.m, server, view, log, a.x, a.y, first, a.z)),
-        Command::Remove => value(wb_remove(g.n, g.b, g.m, server, view, log, a.x, a.y, first)),
+        Command::Rmfile => value(wb_remove_file(g.n, g.b, g.m, server, view, log, a.x, a.y, first)),
+        Command::Rmdir => value(wb_remove_directory(
+            g.n,
+            g.b,
+            g.m,
+            server,
+            view,
+            log,
+            a.x,
+            a.y,
+            first,
+        )),
         Command::Rename => value(wb_rename(
             g.n,
             g.b,

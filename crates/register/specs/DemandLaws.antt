@@ -18,7 +18,7 @@ use Rattle.log.specs.Order.{any, before, needed, preceded, PrecedesIn}
 use Rattle.log.specs.OrderLaws.{Rising, direct-decides, preceded-exact}
 use Rattle.log.specs.Change.{waitingOf}
 use Rattle.log.specs.ChangeLaws.{waiting-at}
-use Rattle.session.specs.Call.{Geometry, Buffers, Call, lookup, list, stat, read, createFile, makeDirectory, remove, rename, write, setLength, forder, push, fsync, cut, Answer, answer, inRange, lengthsFit}
+use Rattle.session.specs.Call.{Geometry, Buffers, Call, lookup, list, stat, read, createFile, makeDirectory, removeFile, removeDirectory, rename, write, setLength, forder, push, fsync, cut, Answer, answer, inRange, lengthsFit}
 use Rattle.session.specs.Call
 use Rattle.session.specs.Model.{Model}
 use Rattle.log.specs.Sends.{applying}
@@ -173,7 +173,8 @@ no-effects g c x n l d = ap (λ (b : Bool). cond b (acceptedEffects c (x .view) 
     none (read p o f t) is a l d = refl
     none (createFile p b t o) is a l d = refl
     none (makeDirectory p b t o) is a l d = refl
-    none (remove p b t) is a l d = refl
+    none (removeFile p b t) is a l d = refl
+    none (removeDirectory p b t) is a l d = refl
     none (rename p b t e k) is a l d = refl
     none (write p o f t) is a l d = refl
     none (setLength p o f) is a l d = refl

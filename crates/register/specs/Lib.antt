@@ -6,6 +6,7 @@ pub mod Takes
 pub mod Claim
 pub mod Across
 pub mod Spelling
+pub mod Removal
 pub mod FateLaws
 pub mod InvariantLaws
 pub mod PickLaws
@@ -29,5 +30,7 @@ pub mod ClaimLaws
 pub mod DemandLaws
 pub mod AcrossLaws
 pub mod SpellingLaws
+pub mod MeetsLaws
+pub mod RemovalLaws
 pub mod Entries
 pub mod EntryLaws

@@ -101,10 +101,10 @@ spelling-issued g x s p d n k a e =
 
 -- an operation that a call issues, as the register adds it, and as the view has it
 module _ (p : ℕ) (o : Operation) where
-  abbrev issuedIn : Register → Acknowledged
+  abbrev pub issuedIn : Register → Acknowledged
   issuedIn r = record { loss = recordOf (length (r .operations) + 1) p o; issued = r .clock + 1; fate = waiting }
 
-  one-issued : (r : Register) → happenAll (issuing p (o ∷ [])) r .operations ≡ r .operations ++ (issuedIn r ∷ [])
+  pub one-issued : (r : Register) → happenAll (issuing p (o ∷ [])) r .operations ≡ r .operations ++ (issuedIn r ∷ [])
   unfolding issuing happenAll happen
   one-issued r = refl
 

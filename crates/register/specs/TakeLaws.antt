@@ -16,7 +16,7 @@ use Rattle.buffer.specs.Patch.{patch}
 use Rattle.log.specs.Slot.{Slot}
 use Rattle.log.specs.Order.{any, needed}
 use Rattle.log.specs.Change.{waitingOf, isLossOf, earliest, lossesOf}
-use Rattle.session.specs.Call.{Geometry, Call, lookup, list, stat, read, createFile, makeDirectory, remove, rename, write, setLength, forder, push, fsync, cut, take as takeLoss, renew, Answer, answer, refusal}
+use Rattle.session.specs.Call.{Geometry, Call, lookup, list, stat, read, createFile, makeDirectory, removeFile, removeDirectory, rename, write, setLength, forder, push, fsync, cut, take as takeLoss, renew, Answer, answer, refusal}
 use Rattle.session.specs.Refusal.{Row, row, lowestNumber}
 use Rattle.session.specs.Model.{Model, unless}
 use Rattle.session.specs.Issue.{issues}
@@ -134,7 +134,8 @@ wrote-taken g (stat q o) x p = quiet g x p (stat q o) refl refl
 wrote-taken g (read q o f s) x p = quiet g x p (read q o f s) refl refl
 wrote-taken g (createFile q d n o) x p = quiet g x p (createFile q d n o) (issuing-none q (issues (x .view) (createFile q d n o))) refl
 wrote-taken g (makeDirectory q d n o) x p = quiet g x p (makeDirectory q d n o) (issuing-none q (issues (x .view) (makeDirectory q d n o))) refl
-wrote-taken g (remove q d n) x p = quiet g x p (remove q d n) (issuing-none q (issues (x .view) (remove q d n))) refl
+wrote-taken g (removeFile q d n) x p = quiet g x p (removeFile q d n) (issuing-none q (issues (x .view) (removeFile q d n))) refl
+wrote-taken g (removeDirectory q d n) x p = quiet g x p (removeDirectory q d n) (issuing-none q (issues (x .view) (removeDirectory q d n))) refl
 wrote-taken g (rename q d n e k) x p = quiet g x p (rename q d n e k) (issuing-none q (issues (x .view) (rename q d n e k))) refl
 wrote-taken g (write q o f s) x p = quiet g x p (write q o f s) (issuing-none q (issues (x .view) (write q o f s))) refl
 wrote-taken g (setLength q o f) x p = quiet g x p (setLength q o f) (issuing-none q (issues (x .view) (setLength q o f))) refl

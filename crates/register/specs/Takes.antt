@@ -6,7 +6,7 @@ use mathlib.Core.Bool.{Bool, _&&_, cond}
 use lib.ListN.{take, getD}
 use lib.Dec.{eqb}
 use Rattle.records.specs.Fields.{encode}
-use Rattle.session.specs.Call.{Call, lookup, list, stat, read, createFile, makeDirectory, remove, rename, write, setLength, forder, push, fsync, cut, take as takeLoss, renew, Answer}
+use Rattle.session.specs.Call.{Call, lookup, list, stat, read, createFile, makeDirectory, removeFile, removeDirectory, rename, write, setLength, forder, push, fsync, cut, take as takeLoss, renew, Answer}
 use Rattle.register.specs.Register.{Register, Acknowledged, isLost, chosen}
 use Rattle.register.specs.Run.{Moment}
 
@@ -25,7 +25,8 @@ wrote p (stat q o) a = []
 wrote p (read q o f s) a = []
 wrote p (createFile q d n o) a = []
 wrote p (makeDirectory q d n o) a = []
-wrote p (remove q d n) a = []
+wrote p (removeFile q d n) a = []
+wrote p (removeDirectory q d n) a = []
 wrote p (rename q d n e k) a = []
 wrote p (write q o f s) a = []
 wrote p (setLength q o f) a = []

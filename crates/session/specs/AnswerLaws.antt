@@ -12,7 +12,7 @@ use lib.Dec.{ltb}
 use Rattle.returned.specs.Returned
 use Rattle.records.specs.Operation.{Operation, Record}
 use Rattle.records.specs.Fields.{objectsOf}
-use Rattle.entry.specs.Entry.{contentsOf}
+use Rattle.entry.specs.Entry.{Entry, isFile, isDirectory, contentsOf}
 use Rattle.search.specs.Volume.{Volume, entryAt, search}
 use Rattle.applies.specs.Apply.{applies}
 use Rattle.questions.specs.declared.object.Stat.{Stat}
@@ -29,12 +29,12 @@ use Rattle.questions.specs.Answer.{listAnswer, listLeft, listLeaves, listNumber
 use Rattle.log.specs.Change.{waitingOf, waitingAt}
 use Rattle.log.specs.Order.{any, before, needed, preceded}
 use Rattle.log.specs.OrderLaws.{direct-decides}
-use Rattle.session.specs.Call.{Geometry, Call, lookup, list, stat, read, createFile, makeDirectory, remove, rename, write, setLength, forder, push, fsync, cut, Answer, answer, resultCount, ownBuffer}
+use Rattle.session.specs.Call.{Geometry, Call, lookup, list, stat, read, createFile, makeDirectory, removeFile, removeDirectory, rename, write, setLength, forder, push, fsync, cut, Answer, answer, resultCount, ownBuffer}
 use Rattle.session.specs.Call
 use Rattle.session.specs.Refusal.{Row, row}
 use Rattle.session.specs.Refusal
 use Rattle.session.specs.Model.{Model, unless, badProgram, isMarked}
-use Rattle.session.specs.Issue.{issues, alters, onFound, displaced, writes}
+use Rattle.session.specs.Issue.{issues, alters, onFound, displaced, removes, writes}
 use Rattle.session.specs.Question.{lookupOf, listOf, statOf, readOf}
 use Rattle.session.specs.Edit.{roomRows, changed, makeRows, makeOf, removeRows, removeOf, renameRows, renameOf, writeRows, writeOf, lengthRows, setLengthOf, forderRows, forderOf}
 use Rattle.log.specs.Sends.{applying}
@@ -118,7 +118,8 @@ module _ (g : Geometry) (x : Model) where
   refused-plain (read p o f s) n l d = plain-unless (read p o f s) _ _ (plain-copied p o f s _ (readAnswer (x .view) o f s)) n
   refused-plain (createFile p b t o) n l d = plain-changed (createFile p b t o) p (makeRows (x .view) b t o) n
   refused-plain (makeDirectory p b t o) n l d = plain-changed (makeDirectory p b t o) p (makeRows (x .view) b t o) n
-  refused-plain (remove p b t) n l d = plain-changed (remove p b t) p (removeRows (x .view) b t) n
+  refused-plain (removeFile p b t) n l d = plain-changed (removeFile p b t) p (removeRows isFile (x .view) b t) n
+  refused-plain (removeDirectory p b t) n l d = plain-changed (removeDirectory p b t) p (removeRows isDirectory (x .view) b t) n
   refused-plain (rename p b t e k) n l d = plain-changed (rename p b t e k) p (renameRows (x .view) b t e k) n
   refused-plain (write p o f s) n l d = plain-changed (write p o f s) p (writeRows (g .blocks) (x .view) o f s) n
   refused-plain (setLength p o f) n l d = plain-changed (setLength p o f) p (lengthRows (g .blocks) (x .view) o f) n
@@ -230,7 +231,8 @@ module _ (g : Geometry) (x : Model) where
   damaged-why (read p o f s) e = never-damaged (read p o f s) (badProgram p ∷ isMarked (x .log) p ∷ []) _ refl refl (copied-sound (readAnswer (x .view) o f s)) e
   damaged-why (createFile p d n o) e = no-change (createFile p d n o) p (makeRows (x .view) d n o) refl refl e
   damaged-why (makeDirectory p d n o) e = no-change (makeDirectory p d n o) p (makeRows (x .view) d n o) refl refl e
-  damaged-why (remove p d n) e = no-change (remove p d n) p (removeRows (x .view) d n) refl refl e
+  damaged-why (removeFile p d n) e = no-change (removeFile p d n) p (removeRows isFile (x .view) d n) refl refl e
+  damaged-why (removeDirectory p d n) e = no-change (removeDirectory p d n) p (removeRows isDirectory (x .view) d n) refl refl e
   damaged-why (rename p d n b k) e = no-change (rename p d n b k) p (renameRows (x .view) d n b k) refl refl e
   damaged-why (write p o f s) e = no-change (write p o f s) p (writeRows (g .blocks) (x .view) o f s) refl refl e
   damaged-why (setLength p o f) e = no-change (setLength p o f) p (lengthRows (g .blocks) (x .view) o f) refl refl e
@@ -253,6 +255,25 @@ module _ (g : Geometry) (x : Model) (s : Sound g x) where
   told : (c : Call) (p : ℕ) (rows : List Row) → changed g c p rows x .returned ≡ 0 → changed g c p rows x .results ≡ x .log .next ∷ []
   told c p rows e = ap (λ (a : Answer). a .results) (accepted-passes c (badProgram p ∷ isMarked (x .log) p ∷ (rows ++ roomRows g c x)) _ e .1)
 
+  -- either remove
+  remove-answered : (takes : Entry → Bool) (p d : ℕ) (n : List ℕ) (c : Call) → answerOf g c x ≡ removeOf g c takes p d n x
+      → ((v : Volume) (w : List Record) → (issues v c ≡ removes v d n) × (acceptedEffects c v w ≡ issuing p (issues v c)))
+      → answerOf g c x .returned ≡ 0 → Changes g c x
+  unfolding removeOf
+  remove-answered takes p d n c by does e =
+      let r : changed g c p (removeRows takes (x .view) d n) x .returned ≡ 0 = sym (ap (λ (a : Answer). a .returned) by) ∙ e in
+      let f = remove-accepted g x s takes p d n c (does (x .view) [] .0) r in
+      record {
+        program = p;
+        first = Operation.remove (f .0) d n;
+        others = [];
+        effects =
+            λ v w z.
+            does v w .1 ∙ ap (issuing p) (does v w .0)
+            ∙ ap (λ (h : Option ℕ). issuing p (onFound h (λ o. Operation.remove o d n))) (ap (λ (y : Volume). search y d n) z ∙ f .1);
+        results = ap (λ (a : Answer). a .results) by ∙ told c p (removeRows takes (x .view) d n) r;
+      }
+
   pub change-answered : (c : Call) → alters c ≡ true → answerOf g c x .returned ≡ 0 → Changes g c x
   unfolding answerOf makeOf removeOf renameOf writeOf setLengthOf forderOf
   change-answered (lookup p t) a e = absurd (false≢true a)
@@ -263,15 +284,8 @@ module _ (g : Geometry) (x : Model) (s : Sound g x) where
       record { program = p; first = Operation.createFile o d n; others = []; effects = λ v w z. refl; results = told (createFile p d n o) p (makeRows (x .view) d n o) e }
   change-answered (makeDirectory p d n o) a e =
       record { program = p; first = Operation.makeDirectory o d n; others = []; effects = λ v w z. refl; results = told (makeDirectory p d n o) p (makeRows (x .view) d n o) e }
-  change-answered (remove p d n) a e =
-      let f = remove-accepted g x s p d n e in
-      record {
-        program = p;
-        first = Operation.remove (f .0) d n;
-        others = [];
-        effects = λ v w z. ap (λ (h : Option ℕ). issuing p (onFound h (λ o. Operation.remove o d n))) (ap (λ (y : Volume). search y d n) z ∙ f .1);
-        results = told (remove p d n) p (removeRows (x .view) d n) e;
-      }
+  change-answered (removeFile p d n) a e = remove-answered isFile p d n (removeFile p d n) refl (λ v w. (refl, refl)) e
+  change-answered (removeDirectory p d n) a e = remove-answered isDirectory p d n (removeDirectory p d n) refl (λ v w. (refl, refl)) e
   change-answered (rename p d n b k) a e =
       let f = rename-accepted g x s p d n b k e in
       record {

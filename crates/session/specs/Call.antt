@@ -39,7 +39,7 @@ pub data Call : Type 0 where
   -- program, parent, name, object
   createFile makeDirectory : ℕ → ℕ → List ℕ → ℕ → Call
   -- program, parent, name
-  remove : ℕ → ℕ → List ℕ → Call
+  removeFile removeDirectory : ℕ → ℕ → List ℕ → Call
   -- program, parent, name, second parent, second name
   rename : ℕ → ℕ → List ℕ → ℕ → List ℕ → Call
   -- program, object, offset, data
@@ -76,7 +76,8 @@ resultCount (stat p o) = 3
 resultCount (read p o f s) = 1
 resultCount (createFile p d n o) = 1
 resultCount (makeDirectory p d n o) = 1
-resultCount (remove p d n) = 1
+resultCount (removeFile p d n) = 1
+resultCount (removeDirectory p d n) = 1
 resultCount (rename p d n e k) = 1
 resultCount (write p o f s) = 1
 resultCount (setLength p o f) = 1
@@ -95,7 +96,8 @@ ownBuffer (stat p o) = []
 ownBuffer (read p o f s) = s
 ownBuffer (createFile p d n o) = []
 ownBuffer (makeDirectory p d n o) = []
-ownBuffer (remove p d n) = []
+ownBuffer (removeFile p d n) = []
+ownBuffer (removeDirectory p d n) = []
 ownBuffer (rename p d n e k) = []
 ownBuffer (write p o f s) = []
 ownBuffer (setLength p o f) = []

@@ -11,17 +11,18 @@ use lib.Dec.{leb, ltb, eqb}
 use borrow.Author.Tests.{ltb-true, ltb-false, leb-true, leb-false, eqb-true, not-false}
 use Rattle.returned.specs.Returned
 use Rattle.records.specs.Operation.{Operation, Record}
+use Rattle.entry.specs.Entry.{isFile, isDirectory}
 use Rattle.search.specs.Volume.{Volume, search}
 use Rattle.applies.specs.Apply.{applies}
 use Rattle.log.specs.Change.{waitingOf, waitingAt, earliest, isLossOf}
 use Rattle.log.specs.ChangeLaws.{noted-waiting, waiting-in-order}
 use Rattle.log.specs.Order.{needed, preceded}
 use Rattle.log.specs.OrderLaws.{direct-decides}
-use Rattle.session.specs.Call.{Geometry, Call, lookup, list, stat, read, createFile, makeDirectory, remove, rename, write, setLength, forder, push, fsync, cut, Answer, answer}
+use Rattle.session.specs.Call.{Geometry, Call, lookup, list, stat, read, createFile, makeDirectory, removeFile, removeDirectory, rename, write, setLength, forder, push, fsync, cut, Answer, answer}
 use Rattle.session.specs.Call
 use Rattle.session.specs.Refusal.{Row, row}
 use Rattle.session.specs.Model.{Model, unless, badProgram, isMarked, outside, isFree}
-use Rattle.session.specs.Issue.{onFound, displaced}
+use Rattle.session.specs.Issue.{onFound, displaced, removes}
 use Rattle.session.specs.Question.{lookupOf, listOf, statOf, readOf}
 use Rattle.log.specs.Sends.{applying}
 use Rattle.session.specs.Send.{ofRecord, pushOf, synced, syncRows, fsyncOf, noLoss, takeOf, renewOf}
@@ -201,6 +202,11 @@ module _ (g : Geometry) where
   issued-possible : (p : ℕ) (x : Model) (os is : List Operation) → is ≡ os → Issuing g x p os → AllPossible g x (issuing p is)
   issued-possible p x os is e i = subst (λ (l : List Operation). AllPossible g x (issuing p l)) (sym e) (issuing-possible g p os x i)
 
+  -- either remove, of what it found
+  remove-possible : (p d : ℕ) (n : List ℕ) (x : Model) → (o : ℕ) × (search (x .view) d n ≡ some o) × Issuing g x p (Operation.remove o d n ∷ [])
+      → AllPossible g x (issuing p (removes (x .view) d n))
+  remove-possible p d n x a = issued-possible p x _ _ (ap (λ (f : Option ℕ). onFound f (λ o. Operation.remove o d n)) (a .1)) (a .2)
+
   -- an accepted call
   accepted-possible : (c : Call) (x : Model) → Sound g x → answerOf g c x .returned ≡ 0 → AllPossible g x (acceptedEffects c (x .view) (waitingOf (x .log .slots)))
   unfolding answerOf lookupOf listOf statOf readOf renewOf
@@ -210,9 +216,8 @@ module _ (g : Geometry) where
   accepted-possible (read p o f s) x h e = (program-good (read p o f s) p _ _ refl e, tt)
   accepted-possible (createFile p d n o) x h e = issued-possible p x _ _ refl (create-accepted g x h p d n o e)
   accepted-possible (makeDirectory p d n o) x h e = issued-possible p x _ _ refl (make-accepted g x h p d n o e)
-  accepted-possible (remove p d n) x h e =
-      let a = remove-accepted g x h p d n e in
-      issued-possible p x _ _ (ap (λ (f : Option ℕ). onFound f (λ o. Operation.remove o d n)) (a .1)) (a .2)
+  accepted-possible (removeFile p d n) x h e = remove-possible p d n x (remove-accepted g x h isFile p d n (removeFile p d n) refl e)
+  accepted-possible (removeDirectory p d n) x h e = remove-possible p d n x (remove-accepted g x h isDirectory p d n (removeDirectory p d n) refl e)
   accepted-possible (rename p d n b k) x h e =
       let a = rename-accepted g x h p d n b k e in
       issued-possible p x _ _ (ap (λ (f : Option ℕ). onFound f (λ o. Operation.rename o d b (displaced o (search (x .view) b k)) n k)) (a .1)) (a .2)
@@ -234,7 +239,8 @@ module _ (g : Geometry) where
   refused-possible (read p o f s) x h = tt
   refused-possible (createFile p d n o) x h = tt
   refused-possible (makeDirectory p d n o) x h = tt
-  refused-possible (remove p d n) x h = tt
+  refused-possible (removeFile p d n) x h = tt
+  refused-possible (removeDirectory p d n) x h = tt
   refused-possible (rename p d n b k) x h = tt
   refused-possible (write p o f s) x h = tt
   refused-possible (setLength p o f) x h = tt

@@ -24,7 +24,7 @@ use Rattle.log.specs.Order.{shares, directlyPrecedes, any, closure, needed, pre
 use Rattle.log.specs.OrderCases.{orderIn, order}
 use Rattle.log.specs.Depend.{reach, noted}
 use Rattle.log.specs.Change.{waitingOf, issue, removed, dependentsOf, discard, earliest, waitingAt}
-use Rattle.session.specs.Call.{Geometry, Call, lookup, list, stat, read, createFile, makeDirectory, remove, rename, write, setLength, push, fsync, cut, take, renew}
+use Rattle.session.specs.Call.{Geometry, Call, lookup, list, stat, read, createFile, makeDirectory, removeFile, removeDirectory, rename, write, setLength, push, fsync, cut, take, renew}
 use Rattle.session.specs.Refusal.{lowestNumber}
 use Rattle.session.specs.Model.{Model, withLog}
 use Rattle.questions.specs.Listing.{listing}
@@ -217,7 +217,7 @@ examples =
     -- "Fsync counts as such a call even if the link fails."
     ∷ C 5 (answersTo small filled (fsync 2 2 0 ∷ stat 2 0 ∷ [])) (numbers ((17 ∷ 0 ∷ []) ∷ (4 ∷ 0 ∷ 0 ∷ 0 ∷ []) ∷ []))
     -- "The lowest number wins": a bad program, a filled directory in a full log, an absent name
-    ∷ C 6 (answersTo (geometry 4 1 2) filled (remove 32 9 [] ∷ remove 0 0 (named 97) ∷ remove 0 0 (named 99) ∷ remove 0 1 (named 98) ∷ []))
+    ∷ C 6 (answersTo (geometry 4 1 2) filled (removeDirectory 32 9 [] ∷ removeDirectory 0 0 (named 97) ∷ removeFile 0 0 (named 99) ∷ removeFile 0 1 (named 98) ∷ []))
     (numbers ((3 ∷ 0 ∷ []) ∷ (11 ∷ 0 ∷ []) ∷ (8 ∷ 0 ∷ []) ∷ (13 ∷ 0 ∷ []) ∷ []))
     ∷ []
 
@@ -278,7 +278,7 @@ letterCase =
     -- "Two pupils made Task and task in one folder": the second is refused, and every spelling finds and removes the first
     C 1
     (answersTo small (createFile 0 0 Task 1 ∷ [])
-    (createFile 1 0 task 2 ∷ makeDirectory 1 0 TASK 2 ∷ lookup 1 (47 ∷ task) ∷ lookup 1 (47 ∷ TASK) ∷ remove 1 0 TASK ∷ lookup 1 (47 ∷ Task) ∷ []))
+    (createFile 1 0 task 2 ∷ makeDirectory 1 0 TASK 2 ∷ lookup 1 (47 ∷ task) ∷ lookup 1 (47 ∷ TASK) ∷ removeFile 1 0 TASK ∷ lookup 1 (47 ∷ Task) ∷ []))
     (numbers ((10 ∷ 0 ∷ []) ∷ (10 ∷ 0 ∷ []) ∷ (0 ∷ 1 ∷ []) ∷ (0 ∷ 1 ∷ []) ∷ (0 ∷ 2 ∷ []) ∷ (8 ∷ 0 ∷ []) ∷ []))
     -- no other byte has a second spelling: "@" and "`" are two names
     ∷ C 2
@@ -300,12 +300,38 @@ letterCase =
     (left (1 ∷ 0 ∷ 1 ∷ 1 ∷ 98 ∷ []))
     -- sent in issue order, each applies to the spelling that it meets
     ∷ C 7
-    (answersTo small (createFile 0 0 Task 1 ∷ []) (rename 0 0 TASK 0 task ∷ remove 0 0 TASK ∷ push 1 ∷ push 3 ∷ push 2 ∷ push 3 ∷ []))
+    (answersTo small (createFile 0 0 Task 1 ∷ []) (rename 0 0 TASK 0 task ∷ removeFile 0 0 TASK ∷ push 1 ∷ push 3 ∷ push 2 ∷ push 3 ∷ []))
     (numbers ((0 ∷ 2 ∷ []) ∷ (0 ∷ 3 ∷ []) ∷ (0 ∷ []) ∷ (15 ∷ []) ∷ (0 ∷ []) ∷ (0 ∷ []) ∷ []))
     ∷ []
 
+-- the filled directory 1, the file 2 in it, and an empty directory 3
+abbrev pub ofEachKind : List Call
+ofEachKind = filled ++ (makeDirectory 1 0 (named 99) 3 ∷ [])
+
+-- a loss of operation 2, which removes object 1, as take leaves it
+abbrev pub removalLost : Told
+removalLost = left (encode (record { sequence = 2; program = 0; operation = Operation.remove 1 0 (named 97) }) ++ replicate 1026 0)
+
+-- document 02, K4: remove is two calls
+abbrev pub twoRemoves : List Row
+twoRemoves =
+    -- "remove directory [takes] only empty directories": no file, which remove file takes
+    C 1 (answersTo small ofEachKind (removeDirectory 0 1 (named 98) ∷ removeFile 0 1 (named 98) ∷ [])) (numbers ((9 ∷ 0 ∷ []) ∷ (0 ∷ 4 ∷ []) ∷ []))
+    -- "Remove file takes only files": no empty directory, which remove directory takes
+    ∷ C 2 (answersTo small ofEachKind (removeFile 0 0 (named 99) ∷ removeDirectory 0 0 (named 99) ∷ [])) (numbers ((9 ∷ 0 ∷ []) ∷ (0 ∷ 4 ∷ []) ∷ []))
+    -- "Refusal 9 covers the wrong choice and comes before 11": of a filled directory, remove file says 9 and remove directory 11
+    ∷ C 3 (answersTo small ofEachKind (removeFile 0 0 (named 97) ∷ removeDirectory 0 0 (named 97) ∷ [])) (numbers ((9 ∷ 0 ∷ []) ∷ (11 ∷ 0 ∷ []) ∷ []))
+    -- and before 13; a refused choice changes nothing and brings no dependence
+    ∷ C 4
+    (answersTo (geometry 4 1 3) ofEachKind (removeDirectory 2 1 (named 98) ∷ removeFile 2 0 (named 99) ∷ removeFile 2 1 (named 98) ∷ cut ∷ stat 2 0 ∷ []))
+    (numbers ((9 ∷ 0 ∷ []) ∷ (9 ∷ 0 ∷ []) ∷ (13 ∷ 0 ∷ []) ∷ (0 ∷ []) ∷ (0 ∷ 2 ∷ 0 ∷ 0 ∷ []) ∷ []))
+    -- "Kind 3 stays in the record, so stored losses read as they did": the same loss by either call
+    ∷ C 5 (leftBy small (createFile 0 0 (named 97) 1 ∷ push 1 ∷ removeFile 0 0 (named 97) ∷ cut ∷ []) (take 0 buffer)) removalLost
+    ∷ C 5 (leftBy small (makeDirectory 0 0 (named 97) 1 ∷ push 1 ∷ removeDirectory 0 0 (named 97) ∷ cut ∷ []) (take 0 buffer)) removalLost
+    ∷ []
+
 abbrev pub table : List Row
-table = cases ++ (examples ++ (acrossTheEnd ++ letterCase))
+table = cases ++ (examples ++ (acrossTheEnd ++ (letterCase ++ twoRemoves)))
 
 -- every row: the definitions give what the documents tell
 pub cases-hold : map (λ r. answerTo (r .asked)) table ≡ map (λ r. r .told) table

@@ -8,11 +8,11 @@ use lib.Dec.{ltb, eqb}
 use Rattle.returned.specs.Returned
 use Rattle.names.specs.Name.{nameTextOf}
 use Rattle.records.specs.Fields.{different, objectsOf}
-use Rattle.entry.specs.Entry.{isUsed, isFile, isDirectory, kindNumber, contentsOf}
+use Rattle.entry.specs.Entry.{Entry, isUsed, isFile, isDirectory, kindNumber, contentsOf}
 use Rattle.search.specs.Volume.{Volume, entryAt, search, hasChildren}
 use Rattle.applies.specs.Apply.{isAbsent}
 use Rattle.log.specs.Order.{any}
-use Rattle.session.specs.Call.{Geometry, Call, remove, rename, write, setLength, forder, Answer, answer}
+use Rattle.session.specs.Call.{Geometry, Call, rename, write, setLength, forder, Answer, answer}
 use Rattle.session.specs.Issue.{displaced, issues}
 use Rattle.session.specs.Refusal.{Row, row}
 use Rattle.session.specs.Model.{Model, unless, programRows, isBad, isLong, outside, isFree, objectRows, roomFor}
@@ -45,19 +45,20 @@ abbrev pub ofFound : Option ℕ → (ℕ → Bool) → Bool
 ofFound none f = false
 ofFound (some o) f = f o
 
--- "Remove takes a file or empty directory."
-abbrev pub removeRows : Volume → ℕ → List ℕ → List Row
-removeRows v d n =
+-- "Remove file takes only files, remove directory only empty directories." (document 02, K4): the kind that a call takes is all that the two
+-- differ in. "Refusal 9 covers the wrong choice and comes before 11."
+abbrev pub removeRows : (Entry → Bool) → Volume → ℕ → List ℕ → List Row
+removeRows takes v d n =
     row Returned.badName (isBad (nameTextOf n))
     ∷ row Returned.longName (isLong (nameTextOf n))
     ∷ row Returned.badNumber (outside v d)
     ∷ row Returned.noObject (isFree v d || (isDirectory (entryAt v d) && isAbsent (search v d n)))
-    ∷ row Returned.wrongKind (not (isDirectory (entryAt v d)))
+    ∷ row Returned.wrongKind (not (isDirectory (entryAt v d)) || ofFound (search v d n) (λ o. not (takes (entryAt v o))))
     ∷ row Returned.notEmpty (ofFound (search v d n) (hasChildren v))
     ∷ []
 
-unfoldable pub removeOf : Geometry → ℕ → ℕ → List ℕ → Model → Answer
-removeOf g p d n x = changed g (remove p d n) p (removeRows (x .view) d n) x
+unfoldable pub removeOf : Geometry → Call → (Entry → Bool) → ℕ → ℕ → List ℕ → Model → Answer
+removeOf g c takes p d n x = changed g c p (removeRows takes (x .view) d n) x
 
 -- "A directory stays in its parent"; "file for directory or the reverse": the object and what it displaces are of one kind
 abbrev pub wrongRename : Volume → ℕ → ℕ → List ℕ → ℕ → Bool

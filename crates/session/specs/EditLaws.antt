@@ -23,10 +23,10 @@ use Rattle.search.specs.FormLaws.{well-formed-inv, lowest-some}
 use Rattle.search.specs.SearchLaws.{entry-set-same}
 use Rattle.applies.specs.Apply.{applies, apply, isAbsent, isAt, hasRoom, yields}
 use Rattle.log.specs.Order.{any}
-use Rattle.session.specs.Call.{Geometry, Call, createFile, makeDirectory, remove, rename, write, setLength, forder, inRange}
+use Rattle.session.specs.Call.{Geometry, Call, createFile, makeDirectory, rename, write, setLength, forder, inRange}
 use Rattle.session.specs.Refusal.{Row}
 use Rattle.session.specs.Model.{Model, badProgram, isMarked, isBad, isLong, outside, isFree}
-use Rattle.session.specs.Issue.{displaced, onFound, onBytes, writes, issues}
+use Rattle.session.specs.Issue.{displaced, onFound, onBytes, writes, removes, issues}
 use Rattle.session.specs.Edit.{roomRows, changed, makeRows, makeOf, removeRows, removeOf, renameRows, renameOf, writeRows, writeOf, lengthRows, setLengthOf, forderRows, forderOf, ofFound, wrongRename, badRange}
 use Rattle.session.specs.RefusalLaws.{Passed, numbered, passed, accepted-passes, neither}
 use Rattle.session.specs.IssueLaws.{Recordable, EntryFields, RangeFields, create-recordable, make-recordable, remove-recordable, rename-recordable, replace-recordable, overwrite-recordable, append-recordable, length-recordable, forder-recordable}
@@ -80,7 +80,7 @@ search-inside v d n i e =
     (omega arith, l .0)
 
 -- an accepted change: its program is good, and no row of its table holds
-change-passed : (g : Geometry) (c : Call) (p : ℕ) (rows : List Row) (x : Model) → numbered (rows ++ roomRows g c x) ≡ true → changed g c p rows x .returned ≡ 0
+pub change-passed : (g : Geometry) (c : Call) (p : ℕ) (rows : List Row) (x : Model) → numbered (rows ++ roomRows g c x) ≡ true → changed g c p rows x .returned ≡ 0
     → (p < 32) × Passed (rows ++ roomRows g c x)
 change-passed g c p rows x n e =
     let z = accepted-passes c (badProgram p ∷ isMarked (x .log) p ∷ (rows ++ roomRows g c x)) _ e in
@@ -152,24 +152,24 @@ module _ (g : Geometry) (x : Model) (s : Sound g x) where
   unfolding applies
   removed-fit d n o dir is kids = rw (dir, is, at-found o, kids)
 
-  -- what an accepted remove found
-  pub remove-accepted : (p d : ℕ) (n : List ℕ) → removeOf g p d n x .returned ≡ 0
+  -- what an accepted remove of either kind found
+  pub remove-accepted : (takes : Entry → Bool) (p d : ℕ) (n : List ℕ) (c : Call) → issues (x .view) c ≡ removes (x .view) d n → removeOf g c takes p d n x .returned ≡ 0
       → (o : ℕ) × (search (x .view) d n ≡ some o) × Issuing g x p (Operation.remove o d n ∷ [])
   unfolding removeOf
-  remove-accepted p d n e =
+  remove-accepted takes p d n c issued e =
       let v = x .view in
-      let a = change-passed g (remove p d n) p (removeRows (x .view) d n) x refl e in
+      let a = change-passed g c p (removeRows takes (x .view) d n) x refl e in
       let r = a .1 in
       let n₈ = neither (isFree v d) (isDirectory (entryAt v d) && isAbsent (search v d n)) (r .1 .1 .1 .0) in
-      let dir : isDirectory (entryAt v d) ≡ true = not-false _ (r .1 .1 .1 .1 .0) in
+      let dir : isDirectory (entryAt v d) ≡ true = not-false _ (neither (not (isDirectory (entryAt v d))) _ (r .1 .1 .1 .1 .0) .0) in
       let there : isAbsent (search v d n) ≡ false = rw dir at (n₈ .1) in
       let one = found-one (search v d n) there in
       let o = one .0 in
       let is = one .1 in
       let kids : hasChildren v o ≡ false = ap (λ (f : Option ℕ). ofFound f (hasChildren v)) (sym is) ∙ r .1 .1 .1 .1 .1 .0 in
-      let count : length (issues v (remove p d n)) ≡ 1 = ap (λ (f : Option ℕ). length (onFound f (λ i. Operation.remove i d n))) is in
-      let room : length (x .log .slots) + length (issues v (remove p d n)) ≤ g .capacity = ltb-false _ _ (r .1 .1 .1 .1 .1 .1 .0) in
-      let number : x .log .next + length (issues v (remove p d n)) ≤ 4294967295 = ltb-false _ _ (r .1 .1 .1 .1 .1 .1 .1 .0) in
+      let count : length (issues v c) ≡ 1 = ap length issued ∙ ap (λ (f : Option ℕ). length (onFound f (λ i. Operation.remove i d n))) is in
+      let room : length (x .log .slots) + length (issues v c) ≤ g .capacity = ltb-false _ _ (r .1 .1 .1 .1 .1 .1 .0) in
+      let number : x .log .next + length (issues v c) ≤ 4294967295 = ltb-false _ _ (r .1 .1 .1 .1 .1 .1 .1 .0) in
       let f : EntryFields (g .objects) o d n =
       record { low = search-inside v d n o is .0; object = found-below d n o is; parent = below d (r .1 .1 .0); text = text-fine n (r .0) (r .1 .0) } in
       (o, is, record { program = a .0; fit = (removed-fit d n o dir is kids, remove-recordable (g .objects) (g .blocks) few o d n f, tt); room = omega arith; number = omega arith })

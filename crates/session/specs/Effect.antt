@@ -14,7 +14,7 @@ use Rattle.applies.specs.Apply.{apply}
 use Rattle.lookup.specs.Lookup.{lookupOperands}
 use Rattle.log.specs.Order.{needed}
 use Rattle.log.specs.Change
-use Rattle.session.specs.Call.{Call, lookup, list, stat, read, createFile, makeDirectory, remove, rename, write, setLength, forder, push, fsync, cut, Answer}
+use Rattle.session.specs.Call.{Call, lookup, list, stat, read, createFile, makeDirectory, removeFile, removeDirectory, rename, write, setLength, forder, push, fsync, cut, Answer}
 use Rattle.session.specs.Call
 use Rattle.session.specs.Issue.{issues}
 use Rattle.session.specs.Model.{Model, withServer, withView, withLog}
@@ -73,7 +73,8 @@ acceptedEffects (stat p o) v w = note p (o ∷ []) ∷ []
 acceptedEffects (read p o f s) v w = note p (o ∷ []) ∷ []
 acceptedEffects (createFile p d n o) v w = issuing p (issues v (createFile p d n o))
 acceptedEffects (makeDirectory p d n o) v w = issuing p (issues v (makeDirectory p d n o))
-acceptedEffects (remove p d n) v w = issuing p (issues v (remove p d n))
+acceptedEffects (removeFile p d n) v w = issuing p (issues v (removeFile p d n))
+acceptedEffects (removeDirectory p d n) v w = issuing p (issues v (removeDirectory p d n))
 acceptedEffects (rename p d n e k) v w = issuing p (issues v (rename p d n e k))
 acceptedEffects (write p o f s) v w = issuing p (issues v (write p o f s))
 acceptedEffects (setLength p o f) v w = issuing p (issues v (setLength p o f))
@@ -98,7 +99,8 @@ refusedEffects (stat p o) a w = []
 refusedEffects (read p o f s) a w = []
 refusedEffects (createFile p d n o) a w = []
 refusedEffects (makeDirectory p d n o) a w = []
-refusedEffects (remove p d n) a w = []
+refusedEffects (removeFile p d n) a w = []
+refusedEffects (removeDirectory p d n) a w = []
 refusedEffects (rename p d n e k) a w = []
 refusedEffects (write p o f s) a w = []
 refusedEffects (setLength p o f) a w = []

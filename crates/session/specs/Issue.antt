@@ -10,7 +10,7 @@ use Rattle.records.specs.Operation.{Operation}
 use Rattle.records.specs.Fields.{objectsOf}
 use Rattle.entry.specs.Entry.{contentsOf}
 use Rattle.search.specs.Volume.{Volume, entryAt, search}
-use Rattle.session.specs.Call.{Call, lookup, list, stat, read, createFile, makeDirectory, remove, rename, write, setLength, forder, push, fsync, cut, take, renew}
+use Rattle.session.specs.Call.{Call, lookup, list, stat, read, createFile, makeDirectory, removeFile, removeDirectory, rename, write, setLength, forder, push, fsync, cut, take, renew}
 
 -- the object that a rename displaces: what its second name leads to, unless that is the object itself
 abbrev pub displaced : ℕ → Option ℕ → Option ℕ
@@ -36,6 +36,10 @@ writesAt len o f s =
 abbrev pub writes : Volume → ℕ → ℕ → List ℕ → List Operation
 writes v o f s = writesAt (length (contentsOf (entryAt v o))) o f s
 
+-- "Kind 3 stays in the record" (document 02, K4): a file or a directory, one operation removes what the name leads to
+abbrev pub removes : Volume → ℕ → List ℕ → List Operation
+removes v d n = onFound (search v d n) (λ o. Operation.remove o d n)
+
 -- the operations that a call issues where it is accepted
 abbrev pub issues : Volume → Call → List Operation
 issues v (lookup p s) = []
@@ -44,7 +48,8 @@ issues v (stat p o) = []
 issues v (read p o f s) = []
 issues v (createFile p d n o) = Operation.createFile o d n ∷ []
 issues v (makeDirectory p d n o) = Operation.makeDirectory o d n ∷ []
-issues v (remove p d n) = onFound (search v d n) (λ o. Operation.remove o d n)
+issues v (removeFile p d n) = removes v d n
+issues v (removeDirectory p d n) = removes v d n
 issues v (rename p d n e k) = onFound (search v d n) (λ o. Operation.rename o d e (displaced o (search v e k)) n k)
 issues v (write p o f s) = writes v o f s
 issues v (setLength p o f) = Operation.setLength o f ∷ []
@@ -63,7 +68,8 @@ alters (stat p o) = false
 alters (read p o f s) = false
 alters (createFile p d n o) = true
 alters (makeDirectory p d n o) = true
-alters (remove p d n) = true
+alters (removeFile p d n) = true
+alters (removeDirectory p d n) = true
 alters (rename p d n e k) = true
 alters (write p o f s) = true
 alters (setLength p o f) = true

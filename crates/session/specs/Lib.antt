@@ -9,6 +9,7 @@ pub mod Effect
 pub mod Send
 pub mod Step
 pub mod Code
+pub mod Removal
 pub mod Cases
 pub mod IssueLaws
 pub mod PossibleLaws
@@ -24,3 +25,4 @@ pub mod GeometryLaws
 pub mod AnswerLaws
 pub mod TableLaws
 pub mod OutcomeLaws
+pub mod RemovalLaws

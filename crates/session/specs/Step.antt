@@ -5,12 +5,13 @@ use mathlib.Core.List.{List, []}
 use mathlib.Core.Bool.{true, _&&_, cond}
 use mathlib.Core.Option.{Option, none, some}
 use Rattle.returned.specs.Returned
+use Rattle.entry.specs.Entry.{isFile, isDirectory}
 use Rattle.search.specs.Volume.{Volume, formatted}
 use Rattle.search.specs.Stored.{encodeVolume, decodeVolume, isSome}
 use Rattle.log.specs.Slot.{Log, emptyLog}
 use Rattle.log.specs.Change.{waitingOf}
 use Rattle.log.specs.Stored.{encodeLog, decodeLog}
-use Rattle.session.specs.Call.{Geometry, Buffers, Call, lookup, list, stat, read, createFile, makeDirectory, remove, rename, write, setLength, forder, push, fsync, cut, take, renew, Answer, answer, refusal, inRange, serverFits, lengthsFit}
+use Rattle.session.specs.Call.{Geometry, Buffers, Call, lookup, list, stat, read, createFile, makeDirectory, removeFile, removeDirectory, rename, write, setLength, forder, push, fsync, cut, take, renew, Answer, answer, refusal, inRange, serverFits, lengthsFit}
 use Rattle.session.specs.Model.{Model}
 use Rattle.session.specs.Effect.{Effect, performAll, effectsOf}
 use Rattle.session.specs.Question.{lookupOf, listOf, statOf, readOf}
@@ -25,7 +26,8 @@ answerOf g (stat p o) x = statOf p o x
 answerOf g (read p o f s) x = readOf p o f s x
 answerOf g (createFile p d n o) x = makeOf g (createFile p d n o) p d n o x
 answerOf g (makeDirectory p d n o) x = makeOf g (makeDirectory p d n o) p d n o x
-answerOf g (remove p d n) x = removeOf g p d n x
+answerOf g (removeFile p d n) x = removeOf g (removeFile p d n) isFile p d n x
+answerOf g (removeDirectory p d n) x = removeOf g (removeDirectory p d n) isDirectory p d n x
 answerOf g (rename p d n e k) x = renameOf g p d n e k x
 answerOf g (write p o f s) x = writeOf g p o f s x
 answerOf g (setLength p o f) x = setLengthOf g p o f x

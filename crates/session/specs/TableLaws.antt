@@ -88,3 +88,11 @@ unless-passes c rows a e = go (eqb (lowestNumber rows) 0) refl
     go : (t : Bool) → eqb (lowestNumber rows) 0 ≡ t → cond t a (refusal (lowestNumber rows) c) ≡ a
     go true z = refl
     go false z = absurd (eqb-false (lowestNumber rows) 0 z e)
+
+-- A number that it answers and that an accepted call does not is the table's.
+pub unless-number : (c : Call) (rows : List Row) (a : Answer) (k : ℕ) → a .returned ≡ 0 → (k ≡ 0 → ⊥) → unless c rows a .returned ≡ k → lowestNumber rows ≡ k
+unless-number c rows a k z n e = go (eqb (lowestNumber rows) 0) refl e
+  where
+    go : (t : Bool) → eqb (lowestNumber rows) 0 ≡ t → cond t a (refusal (lowestNumber rows) c) .returned ≡ k → lowestNumber rows ≡ k
+    go true y h = absurd (n (sym h ∙ z))
+    go false y h = h

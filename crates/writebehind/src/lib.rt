@@ -211,9 +211,9 @@ pub extern "C" fn wb_mkdir(
     )
 }
 
-// "Remove takes a file or empty directory."
+// "Remove file takes only files" (document 02, K4).
 #[no_mangle]
-pub extern "C" fn wb_remove(
+pub extern "C" fn wb_remove_file(
     n: u64,
     b: u64,
     m: u64,
@@ -224,9 +224,37 @@ pub extern "C" fn wb_remove(
     parent: u64,
     name: &[u8],
 ) -> Value
-    ensures { λ r. ⌜ given (r .returned) (r .value ∷ []) [] (buffers (now (server .entry)) (now (view .exit)) (now (log .exit))) ≡ step (geometry n b m) (Call.remove program parent (now (name .entry))) (buffers (now (server .entry)) (now (view .entry)) (now (log .entry))) ⌝ }
+    ensures { λ r. ⌜ given (r .returned) (r .value ∷ []) [] (buffers (now (server .entry)) (now (view .exit)) (now (log .exit))) ≡ step (geometry n b m) (Call.removeFile program parent (now (name .entry))) (buffers (now (server .entry)) (now (view .entry)) (now (log .entry))) ⌝ }
 {
-    naming::remove::remove(
+    naming::remove::remove_file(
+        n as usize,
+        b as usize,
+        m as usize,
+        server,
+        view,
+        log,
+        program as usize,
+        parent as usize,
+        name,
+    )
+}
+
+// "remove directory only empty directories" (document 02, K4).
+#[no_mangle]
+pub extern "C" fn wb_remove_directory(
+    n: u64,
+    b: u64,
+    m: u64,
+    server: &[u8],
+    view: &mut [u8],
+    log: &mut [u8],
+    program: u64,
+    parent: u64,
+    name: &[u8],
+) -> Value
+    ensures { λ r. ⌜ given (r .returned) (r .value ∷ []) [] (buffers (now (server .entry)) (now (view .exit)) (now (log .exit))) ≡ step (geometry n b m) (Call.removeDirectory program parent (now (name .entry))) (buffers (now (server .entry)) (now (view .entry)) (now (log .entry))) ⌝ }
+{
+    naming::remove::remove_directory(
         n as usize,
         b as usize,
         m as usize,

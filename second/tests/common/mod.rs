@@ -75,8 +75,12 @@ impl World {
         numbered(second::make_directory(&mut self.lent(), program, parent, name, object))
     }
 
-    pub fn remove(&mut self, program: u64, parent: u64, name: &[u8]) -> Answer {
-        numbered(second::remove(&mut self.lent(), program, parent, name))
+    pub fn rmfile(&mut self, program: u64, parent: u64, name: &[u8]) -> Answer {
+        numbered(second::remove_file(&mut self.lent(), program, parent, name))
+    }
+
+    pub fn rmdir(&mut self, program: u64, parent: u64, name: &[u8]) -> Answer {
+        numbered(second::remove_directory(&mut self.lent(), program, parent, name))
     }
 
     pub fn rename(&mut self, program: u64, parent: u64, name: &[u8], to: u64, second_name: &[u8]) -> Answer {

@@ -1,4 +1,4 @@
--- The parts of the tables of create, make directory, remove and rename that the code goes through one after the other, and what it
+-- The parts of the tables of create, make directory, the removes and rename that the code goes through one after the other, and what it
 -- finds on the way.
 use Prim.Native.Nat.{ℕ}
 use mathlib.Core.Path.{_≡_}
@@ -10,11 +10,11 @@ use Rattle.returned.specs.Returned
 use Rattle.names.specs.Name.{nameTextOf}
 use Rattle.records.specs.declared.kind.Kind.{Kind}
 use Rattle.records.specs.declared.kind.Kind.the-variants.{CreateFile, MakeDirectory}
-use Rattle.entry.specs.Entry.{isDirectory, kindNumber}
+use Rattle.entry.specs.Entry.{Entry, isFile, isDirectory, kindNumber}
 use Rattle.search.specs.Volume.{Volume, entryAt, search, hasChildren}
 use Rattle.applies.specs.Apply.{isAbsent}
 use Rattle.writer.specs.Code.Writer.{displacedBy}
-use Rattle.session.specs.Call.{Call, createFile, makeDirectory}
+use Rattle.session.specs.Call.{Call, createFile, makeDirectory, removeFile, removeDirectory}
 use Rattle.session.specs.Issue.{displaced}
 use Rattle.session.specs.Refusal.{Row, row}
 use Rattle.session.specs.Model.{isBad, isLong, outside, isFree}
@@ -30,6 +30,15 @@ abbrev pub makeKind : Bool → Kind
 makeKind true = MakeDirectory
 makeKind false = CreateFile
 
+-- the two calls that remove an entry, and the kind that each takes
+abbrev pub removeCall : Bool → ℕ → ℕ → List ℕ → Call
+removeCall true p d n = removeDirectory p d n
+removeCall false p d n = removeFile p d n
+
+abbrev pub takenBy : Bool → Entry → Bool
+takenBy true e = isDirectory e
+takenBy false e = isFile e
+
 -- "5 Bad name", "6 Long name"
 abbrev pub textRows : List ℕ → List Row
 textRows n = row Returned.badName (isBad (nameTextOf n)) ∷ row Returned.longName (isLong (nameTextOf n)) ∷ []
@@ -41,6 +50,10 @@ foundRows v d n =
     ∷ row Returned.noObject (isFree v d || (isDirectory (entryAt v d) && isAbsent (search v d n)))
     ∷ row Returned.wrongKind (not (isDirectory (entryAt v d)))
     ∷ []
+
+-- an object that was found may be removed: it is of the kind that the call takes, and has no children
+abbrev pub choiceRows : (Entry → Bool) → Volume → ℕ → List Row
+choiceRows takes v o = row Returned.wrongKind (not (takes (entryAt v o))) ∷ row Returned.notEmpty (hasChildren v o) ∷ []
 
 -- an object that was found may take another name and place, and displace another object or none
 abbrev pub moveRows : Volume → ℕ → ℕ → ℕ → Option ℕ → List Row

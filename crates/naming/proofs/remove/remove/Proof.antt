@@ -2,12 +2,14 @@
 use native.Mathlib.Omega.{arith}
 use mathlib.Core.Path.{refl, sym, _∙_}
 use Rattle.records.specs.Operation.{Operation}
+use Rattle.search.specs.Stored.{readVolume}
 use Rattle.log.specs.Stored.{readLog}
-use Rattle.session.specs.Call.{Call, geometry, buffers}
+use Rattle.session.specs.Call.{geometry, buffers}
 use Rattle.admission.specs.AdmittedLaws.{admitted}
 use Rattle.changing.specs.ChangeLaws.{lent-refuses, change-refuses, change-accepted, change-own}
 use Rattle.changing.specs.IssuedLaws.{issuing-room, issuing-able, issued-outcome}
-use Rattle.naming.specs.NamingLaws.{remove-change, remove-issues, remove-issuing, remove-record}
+use Rattle.naming.specs.Code.Rows.{removeCall}
+use Rattle.naming.specs.NamingLaws.{remove-plain, remove-change, remove-issues, remove-issuing, remove-record}
 use borrow.Author.Needs.{needs}
 use Rattle.naming.proofs.remove.remove.Statement.{statement}
 use Rattle.naming.proofs.remove.remove.Tie as tie
@@ -28,8 +30,8 @@ returns : tie.Need-returns
 returns c =
     let y = c .before .before in
     let a = y .before .before .before .before .before .before .before .args in
-    lent-refuses (geometry (a .n) (a .b) (a .m)) (Call.remove (a .program) (a .parent) (a .name .now)) (buffers (a .server .now) (a .view .now) (a .log .now))
-    (λ k. refl) (y .admit .result) (y .admit .ensures) (c .before .if1 .taken) (c .refused .result) (c .refused .ensures)
+    lent-refuses (geometry (a .n) (a .b) (a .m)) (removeCall (a .directory) (a .program) (a .parent) (a .name .now)) (buffers (a .server .now) (a .view .now) (a .log .now))
+    (remove-plain (a .directory) (a .program) (a .parent) (a .name .now)) (y .admit .result) (y .admit .ensures) (c .before .if1 .taken) (c .refused .result) (c .refused .ensures)
 
 remove-refusal-requires : tie.Need-remove-refusal-requires
 remove-refusal-requires c κs =
@@ -59,7 +61,7 @@ returns-2 c =
     let y = x .before .before .before in
     let a = y .before .before .before .before .before .before .before .args in
     let h = admitted (a .n) (a .b) (a .m) (a .server .now) (a .view .now) (a .log .now) (sym (y .admit .ensures) ∙ x .before .before .if1 .left) in
-    let ch = remove-change (a .n) (a .b) (a .m) (a .program) (a .server .now) (a .view .now) (a .log .now) h (a .parent) (a .name .now)
+    let ch = remove-change (a .n) (a .b) (a .m) (a .program) (a .server .now) (a .view .now) (a .log .now) h (a .directory) (a .parent) (a .name .now)
     (x .remove-refusal .result .refused) (x .remove-refusal .result .object) (x .remove-refusal .ensures) in
     change-refuses ch (k .change-refusal .result) (k .change-refusal .ensures) (c .before .if2 .taken) (c .refused2 .result) (c .refused2 .ensures)
 
@@ -70,10 +72,10 @@ issue-entry-requires c κs =
     let y = x .before .before .before in
     let a = y .before .before .before .before .before .before .before .args in
     let h = admitted (a .n) (a .b) (a .m) (a .server .now) (a .view .now) (a .log .now) (sym (y .admit .ensures) ∙ x .before .before .if1 .left) in
-    let ch = remove-change (a .n) (a .b) (a .m) (a .program) (a .server .now) (a .view .now) (a .log .now) h (a .parent) (a .name .now)
+    let ch = remove-change (a .n) (a .b) (a .m) (a .program) (a .server .now) (a .view .now) (a .log .now) h (a .directory) (a .parent) (a .name .now)
     (x .remove-refusal .result .refused) (x .remove-refusal .result .object) (x .remove-refusal .ensures) in
     let is = x .remove-refusal .ensures .found (change-own ch (k .change-refusal .result) (k .change-refusal .ensures) (c .before .before .if2 .left)) in
-    let i = remove-issuing (a .n) (a .b) (a .m) (a .program) (a .server .now) (a .view .now) (a .log .now) h (a .parent) (a .name .now)
+    let i = remove-issuing (a .n) (a .b) (a .m) (a .program) (a .server .now) (a .view .now) (a .log .now) h (a .directory) (a .parent) (a .name .now)
     (x .remove-refusal .result .object) is (change-accepted ch (k .change-refusal .result) (k .change-refusal .ensures) (c .before .before .if2 .left)) in
     let r = remove-record (readLog (a .m) (a .log .now) .next) (a .program) (x .remove-refusal .result .object) (a .parent) (a .name .now) in
     (h .log, (h .view, (issuing-room h i, (refl, issuing-able h i _ r))))
@@ -95,14 +97,14 @@ returns-3 c =
     let y = x .before .before .before in
     let a = y .before .before .before .before .before .before .before .args in
     let h = admitted (a .n) (a .b) (a .m) (a .server .now) (a .view .now) (a .log .now) (sym (y .admit .ensures) ∙ x .before .before .if1 .left) in
-    let ch = remove-change (a .n) (a .b) (a .m) (a .program) (a .server .now) (a .view .now) (a .log .now) h (a .parent) (a .name .now)
+    let ch = remove-change (a .n) (a .b) (a .m) (a .program) (a .server .now) (a .view .now) (a .log .now) h (a .directory) (a .parent) (a .name .now)
     (x .remove-refusal .result .refused) (x .remove-refusal .result .object) (x .remove-refusal .ensures) in
     let is = x .remove-refusal .ensures .found
     (change-own ch (k .change-refusal .result) (k .change-refusal .ensures) (c .before .before .before .before .before .before .before .before .if2 .left)) in
     let r = remove-record (readLog (a .m) (a .log .now) .next) (a .program) (x .remove-refusal .result .object) (a .parent) (a .name .now) in
     issued-outcome ch (k .change-refusal .result) (k .change-refusal .ensures) (c .before .before .before .before .before .before .before .before .if2 .left)
     (Operation.remove (x .remove-refusal .result .object) (a .parent) (a .name .now))
-    (remove-issues (a .n) (a .b) (a .m) (a .program) (a .server .now) (a .view .now) (a .log .now) h (a .parent) (a .name .now) (x .remove-refusal .result .object) is) _ r
+    (remove-issues (a .directory) (readVolume (a .n) (a .b) (a .view .now)) (a .program) (a .parent) (a .name .now) (x .remove-refusal .result .object) is) _ r
     (u .issue-entry .result)
     (u .issue-entry .last .0) (u .issue-entry .last .1 .0) (u .issue-entry .ensures) (c .of .result) (c .of .ensures)
 

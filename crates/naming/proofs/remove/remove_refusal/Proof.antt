@@ -1,7 +1,8 @@
 -- `naming::remove::remove_refusal` meets its contract. Assumes nothing.
-use mathlib.Core.Path.{sym, _∙_}
 use Rattle.search.specs.Stored.{readVolume}
-use Rattle.naming.specs.RowLaws.{remove-text, remove-refused, remove-full, remove-fine}
+use Rattle.search.specs.LentLaws.{length-read}
+use Rattle.naming.specs.Code.Rows.{takenBy}
+use Rattle.naming.specs.RowLaws.{found-object, remove-text, remove-refused, remove-found}
 use borrow.Author.Needs.{needs}
 use Rattle.naming.proofs.remove.remove_refusal.Statement.{statement}
 use Rattle.naming.proofs.remove.remove_refusal.Tie as tie
@@ -13,7 +14,8 @@ returns : tie.Need-returns
 returns c =
     let t = c .before in
     let a = t .before .before .before .args in
-    remove-text (readVolume (a .n) (a .b) (a .view .now)) (a .parent) (a .name .now) (t .text-refusal .result) (t .text-refusal .ensures) (c .if1 .taken)
+    remove-text (takenBy (a .directory)) (readVolume (a .n) (a .b) (a .view .now)) (a .parent) (a .name .now) (t .text-refusal .result) (t .text-refusal .ensures)
+    (c .if1 .taken)
 
 seek-requires : tie.Need-seek-requires
 seek-requires c κs = search needs
@@ -23,27 +25,25 @@ returns-2 c =
     let f = c .before .before in
     let t = f .before .before in
     let a = t .before .before .before .args in
-    remove-refused (readVolume (a .n) (a .b) (a .view .now)) (a .parent) (a .name .now) (t .text-refusal .result) (t .text-refusal .ensures) (f .before .if1 .left)
-    (f .seek .result .refused) (f .seek .result .object) (f .seek .ensures) (c .if2 .taken)
+    remove-refused (takenBy (a .directory)) (readVolume (a .n) (a .b) (a .view .now)) (a .parent) (a .name .now) (t .text-refusal .result) (t .text-refusal .ensures)
+    (f .before .if1 .left) (f .seek .result .refused) (f .seek .result .object) (f .seek .ensures) (c .if2 .taken)
 
-has-children-requires : tie.Need-has-children-requires
-has-children-requires c κs = search needs
+choice-refusal-requires : tie.Need-choice-refusal-requires
+choice-refusal-requires c κs =
+    let f = c .before .before in
+    let t = f .before .before .before .before .before in
+    let a = t .args in
+    let is = f .seek .ensures .found (c .if2 .left) in
+    (t .pre, rw (length-read (a .n) (a .b) (a .view .now)) at (found-object (readVolume (a .n) (a .b) (a .view .now)) (a .parent) (a .name .now) (f .seek .result .object) is .0))
 
 returns-3 : tie.Need-returns-3
 returns-3 c =
-    let f = c .before .before .before .before in
+    let f = c .before .before .before in
     let t = f .before .before in
     let a = t .before .before .before .args in
-    remove-full (readVolume (a .n) (a .b) (a .view .now)) (a .parent) (a .name .now) (t .text-refusal .result) (t .text-refusal .ensures) (f .before .if1 .left)
-    (f .seek .result .refused) (f .seek .result .object) (f .seek .ensures) (c .before .before .if2 .left) (sym (c .before .has-children .ensures) ∙ c .if3 .taken)
-
-returns-4 : tie.Need-returns-4
-returns-4 c =
-    let f = c .before .before .before .before in
-    let t = f .before .before in
-    let a = t .before .before .before .args in
-    remove-fine (readVolume (a .n) (a .b) (a .view .now)) (a .parent) (a .name .now) (t .text-refusal .result) (t .text-refusal .ensures) (f .before .if1 .left)
-    (f .seek .result .refused) (f .seek .result .object) (f .seek .ensures) (c .before .before .if2 .left) (sym (c .before .has-children .ensures) ∙ c .if3 .left)
+    remove-found (takenBy (a .directory)) (readVolume (a .n) (a .b) (a .view .now)) (a .parent) (a .name .now) (t .text-refusal .result) (t .text-refusal .ensures)
+    (f .before .if1 .left) (f .seek .result .refused) (f .seek .result .object) (f .seek .ensures) (c .before .if2 .left) (c .choice-refusal .result)
+    (c .choice-refusal .ensures)
 
 pub remove-refusal-spec : {M : Type 1} → statement M
 remove-refusal-spec =
@@ -53,6 +53,5 @@ remove-refusal-spec =
     returns
     seek-requires
     returns-2
-    has-children-requires
-    returns-3
-    returns-4)
+    choice-refusal-requires
+    returns-3)
