@@ -1,5 +1,5 @@
--- The two removes (document 02, K4), on any volumes and any log: one that finds an object of the other kind is refused with 9, whatever else is
--- amiss with it; an accepted one took an object of its kind, without children. Assumes nothing.
+-- The two removes (document 02, K4): on any volumes and any log one that finds an object of the other kind is refused with 9, whatever else is
+-- amiss with it; on those of the right form an accepted one took an object of its kind, without children. Assumes nothing.
 use Prim.Native.Nat.{ℕ}
 use native.Mathlib.Omega.{arith}
 use mathlib.Core.Path.{_≡_, refl, sym, ap, _∙_, subst}
