@@ -6,9 +6,9 @@
 #include <time.h>
 #include "second_calls.h"
 
-#define N 256
-#define B 64
-#define M 1024
+#define N WB_MOST_OBJECTS
+#define B WB_MOST_BLOCKS
+#define M WB_MOST_SLOTS
 #define VOLUME ((size_t)WB_VOLUME_BYTES(N, B))
 #define LOG ((size_t)WB_LOG_BYTES(M))
 #define LENT N, B, M, server, VOLUME, view, VOLUME, slots, LOG
@@ -17,7 +17,7 @@
 
 enum { DIRECTORIES = 15, FILES = 112, FIRST_FILE = DIRECTORIES + 1, LAST_FILE = DIRECTORIES + FILES, QUIET = LAST_FILE, SHORTER = LAST_FILE - 3 };
 
-static uint8_t server[VOLUME], view[VOLUME], slots[LOG], own[65536];
+static uint8_t server[VOLUME], view[VOLUME], slots[LOG], own[B * WB_BLOCK_BYTES];
 static uint8_t saved_server[VOLUME], saved_view[VOLUME], saved_slots[LOG], saved_own[sizeof own];
 static uint8_t left_server[VOLUME], left_view[VOLUME], left_slots[LOG], left_own[sizeof own];
 static int by_second; /* which program the calls below go to */
@@ -52,9 +52,9 @@ static uint64_t make(void) { return EITHER(mkdir, LENT, 1, 15, TEXT("a new direc
 static uint64_t remove_file(void) { return EITHER(remove_file, LENT, 1, 15, TEXT("f126")); }
 static uint64_t remove_directory(void) { return EITHER(remove_directory, LENT, 1, 15, TEXT("empty")); }
 static uint64_t rename_of(void) { return EITHER(rename, LENT, 1, 15, TEXT("f126"), 15, TEXT("f125")); }
-static uint64_t overwrite(void) { return EITHER(write, LENT, 1, QUIET, 1024, own, 1024); }
-static uint64_t append(void) { return EITHER(write, LENT, 1, QUIET, 2048, own, 1024); }
-static uint64_t across(void) { return EITHER(write, LENT, 1, SHORTER, 1024, own, 1024); }
+static uint64_t overwrite(void) { return EITHER(write, LENT, 1, QUIET, WB_BLOCK_BYTES, own, WB_BLOCK_BYTES); }
+static uint64_t append(void) { return EITHER(write, LENT, 1, QUIET, 2 * WB_BLOCK_BYTES, own, WB_BLOCK_BYTES); }
+static uint64_t write_across(void) { return EITHER(write, LENT, 1, SHORTER, WB_BLOCK_BYTES, own, WB_BLOCK_BYTES); }
 static uint64_t setlen(void) { return EITHER(setlen, LENT, 1, QUIET, 0); }
 static uint64_t forder(void) { return EITHER(forder, LENT, 1, TEXT("\1\0\2\0\3\0\4\0\5\0\6\0\7\0\10\0")); }
 static uint64_t push(void) { return EITHER(push, LENT, last); }
@@ -99,8 +99,8 @@ static void make_volume(void)
             continue;
         }
         sent(wb_create(LENT, 1, parent_of(i), (uint8_t *)name, length, i), "create");
-        sent(wb_write(LENT, 1, i, 0, own, 1024), "write");
-        sent(wb_write(LENT, 1, i, 1024, own, i == SHORTER ? 512 : 1024), "write");
+        sent(wb_write(LENT, 1, i, 0, own, WB_BLOCK_BYTES), "write");
+        sent(wb_write(LENT, 1, i, WB_BLOCK_BYTES, own, i == SHORTER ? WB_BLOCK_BYTES / 2 : WB_BLOCK_BYTES), "write");
     }
     expect(mount(), WB_ACCEPTED, "mount");
 }
@@ -122,7 +122,7 @@ static struct wb_value attempt(uint64_t program)
     const uint8_t *named = (uint8_t *)name, *unnamed = (uint8_t *)other;
     uint64_t file = FIRST_FILE + random_below(FILES - 8), unused = LAST_FILE + 1 + random_below(N - 2 - LAST_FILE);
     uint64_t length = (uint64_t)sprintf(name, "f%d", (int)file), other_length = (uint64_t)sprintf(other, "f%d", (int)unused);
-    uint64_t at = random_below(1024), parent = parent_of(file);
+    uint64_t at = random_below(WB_BLOCK_BYTES), parent = parent_of(file);
     uint8_t objects[4] = {(uint8_t)file, 0, (uint8_t)parent, 0};
     switch (random_below(12)) {
     case 0: return wb_create(LENT, program, parent, unnamed, other_length, unused);
@@ -131,9 +131,9 @@ static struct wb_value attempt(uint64_t program)
     case 3: return wb_rename(LENT, program, parent, named, length, parent, unnamed, other_length);
     case 4: return wb_rename(LENT, program, parent, unnamed, other_length, parent, named, length);
     case 5: return wb_write(LENT, program, file, wb_stat(LENT, program, file).length, own, 1 + at);
-    case 6: return wb_setlen(LENT, program, file, 2048 + at);
+    case 6: return wb_setlen(LENT, program, file, 2 * WB_BLOCK_BYTES + at);
     case 7: return wb_forder(LENT, program, objects, sizeof objects);
-    default: return wb_write(LENT, program, file, at, own, 1 + random_below(1024 - at));
+    default: return wb_write(LENT, program, file, at, own, 1 + random_below(WB_BLOCK_BYTES - at));
     }
 }
 
@@ -148,7 +148,7 @@ static void make_waiting(uint64_t count)
     if (count > 1)
         expect(wb_forder(LENT, 1, TEXT("\0\0\1\0\2\0\3\0\4\0\5\0\6\0\7\0")).returned, WB_ACCEPTED, "forder");
     if (count > 0) {
-        struct wb_value written = wb_write(LENT, 1, QUIET, 0, own, 1024);
+        struct wb_value written = wb_write(LENT, 1, QUIET, 0, own, WB_BLOCK_BYTES);
         expect(written.returned, WB_ACCEPTED, "write");
         last = written.value;
     }
@@ -273,21 +273,21 @@ static const struct timed changes[] = {
     {"create", create, 1, 0}, {"mkdir", make, 1, 0}, {"remove file", remove_file, 1, 0},
     {"rename that displaces", rename_of, 1, 0}, {"write, overwrite", overwrite, 1, 0}, {"write, append", append, 1, 0},
     {"setlen", setlen, 1, 0}, {"forder of 8", forder, 1, 0}};
-static const struct timed emptied = {"remove directory", remove_directory, 1, 0};
-static const struct timed twofold[] = {{"write, across the end", across, 1, 0}};
+static const struct timed directory_removal = {"remove directory", remove_directory, 1, 0};
+static const struct timed across = {"write, across the end", write_across, 1, 0};
 static const struct timed sends[] = {
     {"push", push, 1, 0}, {"push behind another", push_behind, 1, 0}, {"fsync of one", sync_few, 1, 0},
     {"fsync of many", sync_many, 0, 0}, {"cut", cut, 0, 0}};
 static const struct timed losses[] = {{"take", take, 1, 0}, {"renew", renew, 1, 0}};
 static const struct timed beginnings[] = {{"format", format, 1, 1}, {"mount", mount, 1, 0}};
 
-/* The remove of an empty directory, which stands in directory 15 for it alone: it is made and sent before, and gone after. */
-static void measure_emptied(const char *state, double goal)
+/* The removal of an empty directory, which stands in directory 15 for it alone: it is made and sent before, and gone after. */
+static void measure_directory_removal(const char *state, double goal)
 {
     restore();
     sent(wb_mkdir(LENT, 1, 15, TEXT("empty"), N - 1), "mkdir");
     save();
-    measure(&emptied, state, goal);
+    measure(&directory_removal, state, goal);
     restore();
     sent(wb_remove_directory(LENT, 1, 15, TEXT("empty")), "remove directory");
     save();
@@ -305,11 +305,11 @@ static void measure_with(uint64_t waiting, const char *state, double goal)
     if (waiting == M)
         make_waiting(M - 1);
     measure_all(changes, COUNT(changes), state, goal);
-    measure_emptied(state, goal);
+    measure_directory_removal(state, goal);
     kept_chance = chance;
     if (waiting == M)
         make_waiting(M - 2);
-    measure_all(twofold, COUNT(twofold), state, goal);
+    measure(&across, state, goal);
     chance = kept_chance;
     make_waiting(waiting ? waiting : 1);
     measure_all(sends, COUNT(sends), state, goal);

@@ -4,6 +4,7 @@
 
 use second::form::well_formed;
 use second::geometry::Geometry;
+use second::names::LONGEST_NAME;
 use second::volume::{Volume, DIRECTORY, FILE, LENGTH_AT};
 use std::hint::black_box;
 use std::time::{Duration, Instant};
@@ -77,11 +78,16 @@ fn full() -> Made {
     tree(N, geometry().longest_file())
 }
 
+/// A name of so many bytes, that differs from those of other objects only at its end.
+fn long_name(object: usize, length: usize) -> Vec<u8> {
+    format!("{:n<1$}{object:03}", "", length - 3).into_bytes()
+}
+
 /// Empty files in one directory, with names of 60 bytes that differ only at their ends: the longest comparisons.
 fn flat() -> Made {
     let mut volume = empty();
     for object in 1..N {
-        volume.make(object, FILE, 0, format!("{:n<57}{object:03}", "").as_bytes());
+        volume.make(object, FILE, 0, &long_name(object, LONGEST_NAME));
     }
     volume
 }
@@ -91,7 +97,7 @@ fn packed() -> Made {
     let mut volume = empty();
     let data = vec![1; geometry().longest_file()];
     for object in 1..N {
-        volume.make(object, FILE, 0, format!("{:n<56}{object:03}", "").as_bytes());
+        volume.make(object, FILE, 0, &long_name(object, LONGEST_NAME - 1));
         volume.put_length(object, data.len());
         volume.put_data(object, 0, &data);
     }

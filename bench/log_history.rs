@@ -2,6 +2,7 @@
 //! directories and files, so that server, view and log are as they are in use, and every operation applies in its turn.
 
 use second::geometry::{Geometry, BLOCK};
+use second::names::LONGEST_NAME;
 use second::refusal::Refusal;
 use second::volume::{Volume, DIRECTORY, FILE};
 use second::Lent;
@@ -240,9 +241,9 @@ impl History {
         found[self.below(found.len())]
     }
 
-    /// A name of at most 60 bytes that no other turn gives.
+    /// A name that no other turn gives.
     fn name(&mut self) -> Vec<u8> {
-        let (turn, length) = (self.turn, 1 + self.below(60));
+        let (turn, length) = (self.turn, 1 + self.below(LONGEST_NAME));
         format!("{turn:-<length$x}").into_bytes()
     }
 

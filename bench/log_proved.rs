@@ -64,7 +64,7 @@ pub fn fsync(server: &mut [u8], log: &mut [u8], program: usize, object: usize, k
     (number, sends)
 }
 
-/// Sends the waiting operation at a position and closes up its slot, on a well-formed server and log.
+/// Sends the waiting operation at a position and frees its slot, on a well-formed server and log.
 #[inline(never)]
 pub fn push(server: &mut [u8], log: &mut [u8], i: usize) -> bool {
     unsafe { bench_push(server.as_mut_ptr(), server.len(), log.as_mut_ptr(), log.len(), N, B, M, i) }

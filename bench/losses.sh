@@ -8,8 +8,8 @@ bytes=${1:-50000000} seed=${2:-1} runs=10
 [ -x "$proved" ] || { echo "no target/bin/losses: run 'rt check losses' first" >&2; exit 2; }
 room=$(mktemp -d)
 trap 'rm -rf "$room"' EXIT
-gcc -O2 -o "$room/make_records" "$here/make_records.c"
-gcc -O2 -o "$room/plain" "$here/losses_plain.c"
+gcc -O2 "-I$here/../include" "-I$here/../host" -o "$room/make_records" "$here/make_records.c"
+gcc -O2 "-I$here/../include" "-I$here/../host" -o "$room/plain" "$here/losses_plain.c"
 "$room/make_records" mixed "$bytes" "$seed" >"$room/input"
 "$proved" <"$room/input" >"$room/proved.out"
 "$room/plain" <"$room/input" >"$room/plain.out"

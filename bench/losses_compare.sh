@@ -8,8 +8,8 @@ count=${1:-300} size=${2:-200000}
 [ -x "$proved" ] || { echo "no target/bin/losses: run 'rt check losses' first" >&2; exit 2; }
 room=$(mktemp -d)
 trap 'rm -rf "$room"' EXIT
-gcc -O2 -o "$room/make_records" "$here/make_records.c"
-gcc -O2 -o "$room/plain" "$here/losses_plain.c"
+gcc -O2 "-I$here/../include" "-I$here/../host" -o "$room/make_records" "$here/make_records.c"
+gcc -O2 "-I$here/../include" "-I$here/../host" -o "$room/plain" "$here/losses_plain.c"
 : >"$room/input"
 seed=0
 while [ "$seed" -le "$count" ]; do

@@ -3,6 +3,7 @@
 #include <stdint.h>
 #include <stdio.h>
 #include <string.h>
+#include "numbers.h"
 
 static unsigned char buf[65536];
 
@@ -11,7 +12,7 @@ static uint32_t two(const unsigned char *p) { return p[0] | (uint32_t)p[1] << 8;
 static uint32_t four(const unsigned char *p) { return two(p) | two(p + 2) << 16; }
 
 static int good_name(const unsigned char *p, size_t n) {
-    if (n < 1 || 60 < n)
+    if (n < 1 || WB_NAME_BYTES < n)
         return 0;
     for (size_t i = 0; i < n; i++)
         if (p[i] == 0 || p[i] == '/')
@@ -21,10 +22,10 @@ static int good_name(const unsigned char *p, size_t n) {
 
 // The length of the valid record that begins n bytes, or 0.
 static size_t record(const unsigned char *p, size_t n) {
-    if (n < 8)
+    if (n < RECORD_FIELDS_AT)
         return 0;
-    uint32_t map = two(p), seq = four(p + 2), object = 0, displaced = 0, offset = 0, len = 0;
-    switch (p[7]) {
+    uint32_t map = two(p + RECORD_MAP_AT), seq = four(p + RECORD_SEQUENCE_AT), object = 0, displaced = 0, offset = 0, len = 0;
+    switch (p[RECORD_KIND_AT]) {
     case 1:
     case 2:
     case 3:
@@ -51,15 +52,15 @@ static size_t record(const unsigned char *p, size_t n) {
     default:
         return 0;
     }
-    if (seq < 1 || 4294967294u < seq || 31 < p[6])
+    if (seq < 1 || WB_LAST_SEQUENCE < seq || WB_PROGRAMS <= p[RECORD_PROGRAM_AT])
         return 0;
-    size_t at = 8;
+    size_t at = RECORD_FIELDS_AT;
     for (int bit = 0; bit < 4; bit++)
         if (map >> bit & 1) {
             if (n < at + 2)
                 return 0;
             uint32_t v = two(p + at);
-            if (255 < v || ((bit == 0 || bit == 3) && v < 1))
+            if (WB_MOST_OBJECTS <= v || ((bit == 0 || bit == 3) && v < 1))
                 return 0;
             if (bit == 0)
                 object = v;
@@ -83,7 +84,7 @@ static size_t record(const unsigned char *p, size_t n) {
         if (n < at + 2)
             return 0;
         len = two(p + at);
-        if (len < 1 || 1024 < len || n < at + 2 + len)
+        if (len < 1 || WB_BLOCK_BYTES < len || n < at + 2 + len)
             return 0;
         at += 2 + len;
     }
@@ -92,10 +93,10 @@ static size_t record(const unsigned char *p, size_t n) {
             return 0;
         size_t count = p[at];
         at += 1;
-        if (count < 1 || 8 < count || n < at + 2 * count)
+        if (count < 1 || WB_LIST_OBJECTS < count || n < at + 2 * count)
             return 0;
         for (size_t i = 0; i < count; i++) {
-            if (255 < two(p + at + 2 * i))
+            if (WB_MOST_OBJECTS <= two(p + at + 2 * i))
                 return 0;
             for (size_t j = 0; j < i; j++)
                 if (two(p + at + 2 * i) == two(p + at + 2 * j))
@@ -105,7 +106,8 @@ static size_t record(const unsigned char *p, size_t n) {
     }
     if ((map >> 3 & 1) && object == displaced)
         return 0;
-    if ((map >> 6 & 1) && (65536 < offset || 65536 - offset < len || 1024 < offset % 1024 + len))
+    if ((map >> 6 & 1)
+        && (LONGEST_FILE < offset || LONGEST_FILE - offset < len || WB_BLOCK_BYTES < offset % WB_BLOCK_BYTES + len))
         return 0;
     return at;
 }
@@ -118,13 +120,14 @@ int main(void) {
         size_t got = fread(buf + held, 1, sizeof buf - held, stdin), at = 0;
         held += got;
         ended = held < sizeof buf;
-        while (at < held && (ended || 1040 <= held - at)) {
+        while (at < held && (ended || WB_RECORD_BYTES <= held - at)) {
             size_t n = record(buf + at, held - at);
             if (n == 0) {
                 printf("bad %llu\n", base + at);
                 return 0;
             }
-            printf("%u %u %u\n", four(buf + at + 2), (unsigned)buf[at + 6], (unsigned)buf[at + 7]);
+            printf("%u %u %u\n", four(buf + at + RECORD_SEQUENCE_AT), (unsigned)buf[at + RECORD_PROGRAM_AT],
+                   (unsigned)buf[at + RECORD_KIND_AT]);
             at += n;
         }
         if (ended)

@@ -6,8 +6,9 @@
 #include <stdio.h>
 #include <stdlib.h>
 #include <string.h>
+#include "numbers.h"
 
-static unsigned char record[2048];
+static unsigned char record[WB_RECORD_BYTES];
 static size_t fill;
 static uint64_t state;
 // Of the bytes to be written: the one that is changed, and the first that is left out.
@@ -112,7 +113,7 @@ static size_t order(uint32_t seq, uint32_t program, uint32_t count, const uint32
 
 static size_t mixed(void) {
     uint32_t seq = any();
-    if (seq < 1 || 4294967294u < seq)
+    if (seq < 1 || WB_LAST_SEQUENCE < seq)
         seq = 1;
     uint32_t program = from_to(0, 31), object = from_to(1, 255), kind = from_to(1, 8);
     switch (kind) {
@@ -122,17 +123,18 @@ static size_t mixed(void) {
             do
                 displaced = from_to(1, 255);
             while (displaced == object);
-        return move(seq, program, object, from_to(0, 255), from_to(0, 255), displaced, from_to(1, 60), from_to(1, 60));
+        return move(seq, program, object, from_to(0, 255), from_to(0, 255), displaced, from_to(1, WB_NAME_BYTES),
+                    from_to(1, WB_NAME_BYTES));
     }
     case 5:
     case 6: {
-        uint32_t start = from_to(0, 1023), len = from_to(1, 1024 - start);
-        return block(kind, seq, program, object, from_to(0, 63) * 1024 + start, len);
+        uint32_t start = from_to(0, WB_BLOCK_BYTES - 1), len = from_to(1, WB_BLOCK_BYTES - start);
+        return block(kind, seq, program, object, from_to(0, WB_MOST_BLOCKS - 1) * WB_BLOCK_BYTES + start, len);
     }
     case 7:
-        return length(seq, program, object, from_to(0, 65536));
+        return length(seq, program, object, from_to(0, LONGEST_FILE));
     case 8: {
-        uint32_t list[8], count = from_to(1, 8);
+        uint32_t list[WB_LIST_OBJECTS], count = from_to(1, WB_LIST_OBJECTS);
         for (uint32_t i = 0; i < count; i++) {
             uint32_t j;
             do {
@@ -144,37 +146,37 @@ static size_t mixed(void) {
         return order(seq, program, count, list);
     }
     default:
-        return entry(kind, seq, program, object, from_to(0, 255), from_to(1, 60));
+        return entry(kind, seq, program, object, from_to(0, 255), from_to(1, WB_NAME_BYTES));
     }
 }
 
 static void limits(void) {
     static const uint32_t c12[] = {5, 6}, one[] = {0}, other[] = {255}, eight[] = {0, 255, 1, 254, 2, 253, 3, 252};
-    const uint32_t first = 1, last = 4294967294u;
+    const uint32_t first = 1, last = WB_LAST_SEQUENCE;
     order(7, 3, 2, c12);
     for (uint32_t kind = 1; kind <= 3; kind++) {
         entry(kind, first, 0, 1, 0, 1);
-        entry(kind, last, 31, 255, 255, 60);
+        entry(kind, last, 31, 255, 255, WB_NAME_BYTES);
     }
     move(first, 0, 1, 0, 0, 0, 1, 1);
-    move(last, 31, 255, 255, 255, 0, 60, 60);
+    move(last, 31, 255, 255, 255, 0, WB_NAME_BYTES, WB_NAME_BYTES);
     move(first, 0, 1, 0, 0, 255, 1, 1);
-    move(last, 31, 255, 255, 255, 1, 60, 60);
+    move(last, 31, 255, 255, 255, 1, WB_NAME_BYTES, WB_NAME_BYTES);
     for (uint32_t kind = 5; kind <= 6; kind++) {
         block(kind, first, 0, 1, 0, 1);
-        block(kind, last, 31, 255, 0, 1024);
-        block(kind, last, 31, 255, 65536 - 1024, 1024);
-        block(kind, last, 31, 255, 65536 - 1, 1);
+        block(kind, last, 31, 255, 0, WB_BLOCK_BYTES);
+        block(kind, last, 31, 255, LONGEST_FILE - WB_BLOCK_BYTES, WB_BLOCK_BYTES);
+        block(kind, last, 31, 255, LONGEST_FILE - 1, 1);
     }
     length(first, 0, 1, 0);
-    length(last, 31, 255, 65536);
+    length(last, 31, 255, LONGEST_FILE);
     order(first, 0, 1, one);
     order(last, 31, 1, other);
     order(last, 31, 8, eight);
     for (size_t n = 0; n < 3 * 65536;)
         n += mixed();
-    // A block that runs a byte past 65,536.
-    block(6, 9, 3, 7, 65536 - 7, 8);
+    // A block that runs a byte past the longest file.
+    block(6, 9, 3, 7, LONGEST_FILE - 7, 8);
     mixed();
 }
 

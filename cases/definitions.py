@@ -281,7 +281,7 @@ class Repository:
 
     def defining(self, name, crate):
         """The only file that defines a name; if more do, the only one of a crate."""
-        files = [file for file in self.root.glob('crates/*/specs/**/*.antt') if not file.stem.endswith('Laws')
+        files = [file for file in self.root.glob('crates/*/specs/**/*.antt') if 'Laws' not in file.parts
                  and re.search(rf'^{name}\b[^:\n]*=', file.read_text(encoding='utf-8'), re.M)]
         parts = [file.relative_to(self.root / 'crates').with_suffix('').parts for file in files]
         chosen = [f'Rattle.{".".join(p)}' for p in parts if len(parts) == 1 or p[0] == crate]
@@ -559,6 +559,7 @@ class Player:
     """Plays the lines of a script: the areas s, v and l, what is given and lent, and the calls by the definitions."""
 
     AREA, LONGEST_LINE, LONGEST_BYTES = 32768, 8191, 2048
+    ENTRY_HEAD, BLOCK, LOG_HEAD, SLOT = 68, 1024, 8, 1048
 
     # the arguments of each line: a an area, n a number, = bytes
     LINES = {'give': 'nnn', 'size': 'nnn', 'fit': '', 'poke': 'an=', 'copy': 'aa', 'show': 'ann', 'digest': '',
@@ -614,7 +615,8 @@ class Player:
 
     def line_fit(self):
         n, b, m = self.given
-        self.line_size(n * (68 + 1024 * b), n * (68 + 1024 * b), 8 + m * 1048)
+        volume = n * (self.ENTRY_HEAD + self.BLOCK * b)
+        self.line_size(volume, volume, self.LOG_HEAD + m * self.SLOT)
 
     def line_poke(self, area, at, values):
         must(at + len(values) <= self.AREA)

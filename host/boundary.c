@@ -3,7 +3,7 @@
 #include <stdio.h>
 #include <stdlib.h>
 #include <string.h>
-#include "writebehind.h"
+#include "numbers.h"
 
 #define N 4
 #define B 1
@@ -11,6 +11,8 @@
 #define VOLUME ((size_t)WB_VOLUME_BYTES(N, B))
 #define LOG ((size_t)WB_LOG_BYTES(M))
 #define ENTRY (VOLUME / N)
+#define FIRST_SLOT WB_LOG_HEAD_BYTES
+#define SECOND_SLOT (FIRST_SLOT + WB_SLOT_BYTES)
 #define WIDE UINT64_C(4294967296)
 #define GUARD 64
 #define GUARDED(area) {(area) + GUARD, sizeof(area) - 2 * GUARD}
@@ -256,7 +258,7 @@ static void session(void)
     CODE(wb_push(LENT, 1), WB_ACCEPTED);
     BYTES(made, 1, 4, 0, 0, 't', 'a', 's', 'k', 0);
     CODE(wb_push(LENT, 2), WB_ACCEPTED);
-    BYTES(made + 64, 3, 0, 0, 0, 'h', 'i', '\n', 0);
+    BYTES(made + LENGTH_AT, 3, 0, 0, 0, 'h', 'i', '\n', 0);
     VALUE(wb_rename(LENT, 0, 0, TEXT("task"), 2, TEXT("t")), WB_ACCEPTED, 4);
     VALUE(wb_forder(LENT, 0, TEXT("\1\0\2\0")), WB_ACCEPTED, 5);
     VALUE(wb_setlen(LENT, 1, 1, 1000), WB_ACCEPTED, 6);
@@ -305,9 +307,9 @@ static void set_next(uint8_t low_byte)
  * next sequence number 10. */
 static void across_end(void)
 {
-    uint8_t *const in_view = v.at + ENTRY + 64, *const in_server = s.at + ENTRY + 64; /* length and data of entry 1 */
-    uint8_t *const second = l.at + 8 + (LOG - 8) / M;                                 /* the second slot */
-    VALUE(wb_write(LENT, 0, 1, 2, own.at, 1023), WB_BAD_RANGE, 0);
+    uint8_t *const in_view = v.at + ENTRY + LENGTH_AT, *const in_server = s.at + ENTRY + LENGTH_AT; /* length and data of entry 1 */
+    uint8_t *const second = l.at + SECOND_SLOT;
+    VALUE(wb_write(LENT, 0, 1, 2, own.at, WB_BLOCK_BYTES - 1), WB_BAD_RANGE, 0);
     VALUE(wb_write(LENT, 0, 1, 2, TEXT("abc")), WB_ACCEPTED, 10);
     BYTES(l.at, 12, 0, 0, 0, 0, 0, 0, 0, 1, 0, 0, 0, 1, 0, 0, 0, 193, 0, 10, 0, 0, 0, 0, 5, 1, 0, 2, 0, 0, 0, 1, 0, 'a', 0);
     BYTES(second, 1, 0, 0, 0, 1, 0, 0, 0, 193, 0, 11, 0, 0, 0, 0, 6, 1, 0, 3, 0, 0, 0, 2, 0, 'b', 'c', 0);
@@ -353,7 +355,7 @@ static uint8_t small[WB_NAME_BYTES], capital[WB_NAME_BYTES];
 /* On a new volume, operation 1 makes file 1 by one of them, and operation 2, a rename, gives it the other. */
 static void spellings(void)
 {
-    uint8_t *const in_server = s.at + ENTRY + 4, *const second = l.at + 8 + (LOG - 8) / M; /* name of entry 1; the second slot */
+    uint8_t *const in_server = s.at + ENTRY + NAME_AT, *const second = l.at + SECOND_SLOT; /* name of entry 1 */
     uint8_t path[1 + WB_NAME_BYTES] = {'/'};
     memset(small, 'n', sizeof small);
     memcpy(capital, small, sizeof capital);
@@ -369,8 +371,8 @@ static void spellings(void)
     SAME(own.at + 4, NAME(small));
     VALUE(wb_rename(LENT, 0, 0, NAME(capital), 0, NAME(capital)), WB_ACCEPTED, 2);
     BYTES(second, 1, 0, 0, 0, 1, 0, 0, 0, 55, 0, 2, 0, 0, 0, 0, 4, 1, 0, 0, 0, 0, 0, 60, 'n');
-    SAME(second + 23, NAME(capital));
-    SAME(second + 84, NAME(capital));
+    SAME(second + RECORD_AT + 15, NAME(capital));
+    SAME(second + RECORD_AT + 76, NAME(capital));
     VALUE(wb_list(LENT, 0, 0, OWN), WB_ACCEPTED, 64);
     SAME(own.at + 4, NAME(capital));
     CODE(wb_push(LENT, 1), WB_ACCEPTED);
@@ -387,11 +389,11 @@ static void lost_spellings(void)
     VALUE(wb_rename(LENT, 0, 0, NAME(small), 0, NAME(capital)), WB_ACCEPTED, 3);
     SAME(v.at, s.at, VOLUME);
     VALUE(wb_rename(LENT, 0, 0, NAME(small), 0, NAME(small)), WB_ACCEPTED, 4);
-    SAME(in_view + 4, NAME(small));
+    SAME(in_view + NAME_AT, NAME(small));
     VALUE(wb_remove_file(LENT, 0, 0, NAME(capital)), WB_ACCEPTED, 5);
     BYTES(in_view, 0, 0, 0, 0, 0);
     VALUE(wb_fsync(LENT, 0, 0, 1), WB_LINK_LOST, 1);
-    SAME(in_view + 4, NAME(capital));
+    SAME(in_view + NAME_AT, NAME(capital));
     VALUE(wb_take(LENT, 0, OWN), WB_ACCEPTED, 136);
     RECORD(wb_record(0, OWN), 0, 136, 4, 0, 4, 55, 1, 0, 0, 0, 15, 60, 76, 60, 0, 0, 0, 0, 0);
     SAME(own.at + 15, NAME(small));
@@ -430,10 +432,10 @@ static void put_entry(struct bytes volume, size_t object, uint8_t kind, uint8_t 
 {
     uint8_t *const at = volume.at + object * ENTRY;
     memset(at, 0, ENTRY);
-    at[0] = kind;
-    at[1] = 2;
-    at[2] = parent;
-    memcpy(at + 4, name, 2);
+    at[KIND_AT] = kind;
+    at[NAME_LENGTH_AT] = 2;
+    at[PARENT_AT] = parent;
+    memcpy(at + NAME_AT, name, 2);
 }
 
 /* Two spellings of a name in one directory of a volume: every entry is refused. In two directories, or with bytes that are no
@@ -494,34 +496,34 @@ static void name_bytes(void)
             continue;
         }
         VALUE(wb_create(LENT, 0, 0, name, 2, 1), WB_ACCEPTED, sequence++);
-        SAME(v.at + ENTRY + 4, name, 2);
+        SAME(v.at + ENTRY + NAME_AT, name, 2);
         VALUE(wb_lookup(LENT, 0, path, 3), WB_ACCEPTED, 1);
         VALUE(wb_remove_file(LENT, 0, 0, name, 2), WB_ACCEPTED, sequence++);
         VALUE(wb_fsync(LENT, 0, 0, 2), WB_ACCEPTED, 2);
     }
 }
 
-/* Removes that are refused before a slot is sought, in the volume of choices(): each call finds an object of the other kind, with
+/* Removals that are refused before a slot is sought, in the volume of removals(): each call finds an object of the other kind, with
  * children or without, by the stored name and in another spelling; or a directory with children; or no object at all. */
-static void refused_removes(int line)
+static void refused_removals(int line)
 {
     static const struct {
         int entry;
         uint64_t parent;
         const char *name;
         uint64_t number;
-    } removes[] = {{REMOVE_DIRECTORY, 0, "task", WB_WRONG_KIND}, {REMOVE_DIRECTORY, 0, "tasK", WB_WRONG_KIND},
+    } cases[] = {{REMOVE_DIRECTORY, 0, "task", WB_WRONG_KIND}, {REMOVE_DIRECTORY, 0, "tasK", WB_WRONG_KIND},
         {REMOVE_FILE, 2, "in", WB_WRONG_KIND}, {REMOVE_FILE, 2, "In", WB_WRONG_KIND}, {REMOVE_FILE, 0, "box", WB_WRONG_KIND},
         {REMOVE_FILE, 0, "BOX", WB_WRONG_KIND}, {REMOVE_DIRECTORY, 0, "box", WB_NOT_EMPTY},
         {REMOVE_DIRECTORY, 0, "bOx", WB_NOT_EMPTY}, {REMOVE_FILE, 0, "in", WB_NO_OBJECT},
         {REMOVE_DIRECTORY, 2, "task", WB_NO_OBJECT}, {REMOVE_FILE, 1, "in", WB_WRONG_KIND},
         {REMOVE_DIRECTORY, 1, "task", WB_WRONG_KIND}};
     size_t i;
-    for (i = 0; i < sizeof removes / sizeof *removes; i++) {
+    for (i = 0; i < sizeof cases / sizeof *cases; i++) {
         struct given g = usual;
-        g.parent = removes[i].parent;
-        g.name = removes[i].name;
-        refused(line, removes[i].entry, g, removes[i].number);
+        g.parent = cases[i].parent;
+        g.name = cases[i].name;
+        refused(line, cases[i].entry, g, cases[i].number);
     }
 }
 
@@ -536,11 +538,11 @@ static void refused_right(int line, uint64_t number)
 }
 
 /* Both are accepted, and lost; the records are those of kind 3. Nothing waits before. */
-static void lost_removes(void)
+static void lost_removals(void)
 {
     static const uint8_t records[2][17] = {{19, 0, 1, 0, 0, 0, 0, 3, 1, 0, 0, 0, 4, 'T', 'a', 's', 'k'},
         {19, 0, 2, 0, 0, 0, 0, 3, 3, 0, 2, 0, 2, 'i', 'N', 170, 170}};
-    uint8_t *const first = l.at + 16, *const second = first + (LOG - 8) / M; /* the records of the first two slots */
+    uint8_t *const first = l.at + FIRST_SLOT + RECORD_AT, *const second = l.at + SECOND_SLOT + RECORD_AT; /* two records */
     VALUE(wb_remove_file(LENT, 0, 0, TEXT("Task")), WB_ACCEPTED, 1);
     BYTES(v.at + ENTRY, 0, 0, 0, 0, 0);
     VALUE(wb_remove_directory(LENT, 0, 2, TEXT("iN")), WB_ACCEPTED, 2);
@@ -562,9 +564,9 @@ static void lost_removes(void)
     CODE(wb_renew(LENT, 0), WB_ACCEPTED);
 }
 
-/* Remove file and remove directory on a new volume with file 1, "task", directory 2, "box", and in it directory 3, "in". Program 1
- * makes them, and program 0 depends on nothing, so that a dependence noted by a refused call would show. */
-static void choices(void)
+/* The two removals, remove file and remove directory, on a new volume with file 1, "task", directory 2, "box", and in it directory
+ * 3, "in". Program 1 makes them, and program 0 depends on nothing, so that a dependence noted by a refused call would show. */
+static void removals(void)
 {
     CODE(wb_format(N, B, M, s.at, s.length), WB_ACCEPTED);
     CODE(wb_mount(LENT), WB_ACCEPTED);
@@ -573,16 +575,16 @@ static void choices(void)
     REFUSED(REMOVE_FILE, parent, 3, WB_NO_OBJECT);
     REFUSED(REMOVE_DIRECTORY, parent, 3, WB_NO_OBJECT);
     VALUE(wb_mkdir(LENT, 1, 2, TEXT("in"), 3), WB_ACCEPTED, 3);
-    refused_removes(__LINE__);
+    refused_removals(__LINE__);
     VALUE(wb_forder(LENT, 1, TEXT("\0\0\1\0\2\0\3\0")), WB_ACCEPTED, 4);
-    refused_removes(__LINE__);
+    refused_removals(__LINE__);
     refused_right(__LINE__, WB_LOG_FULL);
     VALUE(wb_fsync(LENT, 1, 0, 4), WB_ACCEPTED, 4);
     set_next(255);
-    refused_removes(__LINE__);
+    refused_removals(__LINE__);
     refused_right(__LINE__, WB_SPENT);
     CODE(wb_mount(LENT), WB_ACCEPTED);
-    lost_removes();
+    lost_removals();
     VALUE(wb_remove_directory(LENT, 0, 2, TEXT("in")), WB_ACCEPTED, 3);
     VALUE(wb_remove_directory(LENT, 0, 0, TEXT("Box")), WB_ACCEPTED, 4);
     VALUE(wb_remove_file(LENT, 0, 0, TEXT("task")), WB_ACCEPTED, 5);
@@ -617,7 +619,7 @@ int main(void)
     different_names();
     names_twice();
     name_bytes();
-    choices();
+    removals();
     for (i = 0; i < 4; i++) {
         SAME(areas[i], guard, GUARD);
         SAME(areas[i] + sizes[i] - GUARD, guard, GUARD);

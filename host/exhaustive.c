@@ -1,11 +1,11 @@
 /* Bounded and exhaustive: all sequences of up to 4 operations from a small alphabet on 3 objects, every closed set of them sent
  * by pushes in every order, then a cut. A write across the end of a file is two operations of a sequence. Names come in several
- * spellings, and each object is also given to the wrong one of the two calls that remove. Run it with ./exhaustive. What buffers,
- * answers, marks and losses have to be is reckoned by the host alone, in exhaustive_parts/trial.c. It stops with 1 at the first
+ * spellings, and each object is also given to the wrong one of the two removals. Run it with ./exhaustive. What buffers, answers,
+ * marks and losses have to be is reckoned by the host alone, in exhaustive_parts/trial.c. It stops with 1 at the first
  * difference. */
 #include <string.h>
 #include <time.h>
-#include "choices.h"
+#include "removal.h"
 #include "spellings.h"
 
 static const struct assignment assignments[] = {
@@ -232,7 +232,7 @@ static struct wb_value call(struct buffers *lent, const struct operation *given)
     case MAKE_DIRECTORY:
         return wb_mkdir(LENT(lent), given->program, given->parent, given->name, given->name_length, given->object);
     case REMOVE:
-        return call_remove(lent, given, kind_at(&view, given->object));
+        return call_removal(lent, given, kind_at(&view, given->object));
     case RENAME:
         return wb_rename(LENT(lent), given->program, given->parent, given->name, given->name_length,
                          given->second_parent, given->second_name, given->second_name_length);
@@ -287,7 +287,7 @@ static void check_refused(struct wb_value got, const struct buffers *lent, int l
     if (taken)
         answered("making an object whose name is there in another spelling", got.returned, WB_TAKEN);
     if (now.operations[now.issued].kind == REMOVE)
-        check_refused_remove(got, &now.operations[now.issued]);
+        check_refused_removal(got, &now.operations[now.issued]);
     unchanged("the refused call", lent, &stage()->lent);
     now.asked = 0;
     counts.refused++;
@@ -333,7 +333,7 @@ static void show_progress(void)
             (unsigned long)counts.calls);
 }
 
-/* The sequence issued so far. */
+/* The sequence that is issued. */
 static void try_sequence(void)
 {
     struct stage kept = *stage();
@@ -346,14 +346,14 @@ static void try_sequence(void)
     show_progress();
 }
 
-/* The sequence issued so far, and all that begin with it. */
+/* The sequence that is issued, and all that begin with it. */
 static void try_all(void)
 {
     uint64_t letter, count;
     if (now.assignment->asks == AFTER_FIRST && first_call())
         ask(&stage()->lent, stage()->dependents);
     try_sequence();
-    try_choices();
+    try_removals();
     if (now.issued == now.most)
         return;
     for (letter = 0; letter < letter_count; letter++) {

@@ -196,7 +196,7 @@ static void make(void)
 {
     const struct call *const call = &progress.call;
     const struct across across = across_of(call);
-    const struct choice choice = choice_of(call);
+    const struct removal removal = removal_of(call);
     const struct spelt spelt = spelt_of(call);
     union answer answers[2];
     uint64_t returned;
@@ -213,7 +213,7 @@ static void make(void)
         stop(call, answers, "the entry cannot return this number");
     counts[call->entry][returned]++;
     count_across(across, returned);
-    count_choice(choice, call, returned);
+    count_removal(removal, call, returned);
     count_spelt(spelt, call, returned);
     note_answer(call, answers[PROVED].code.returned);
 }
@@ -310,7 +310,7 @@ static unsigned say_counts(void)
         printf("\n");
         accepted += counts[entry][WB_ACCEPTED];
     }
-    missing += say_across() + say_choice() + say_spelt();
+    missing += say_across() + say_removal() + say_spelt();
     printf("%s calls, %s of them accepted\n", commas(progress.made), commas(accepted));
     return missing;
 }

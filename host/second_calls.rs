@@ -181,6 +181,9 @@ fn fields(at: u64, bytes: &[u8]) -> Loss {
     loss
 }
 
+/// The bytes of a record before its fields: map (2), sequence (4), program (1), kind (1).
+const RECORD_HEAD: u64 = 8;
+
 /// Where the bytes of a bit's field begin: behind the fields of lower bits, and behind the field's own length.
 fn place(loss: &Loss, at: u64, bit: usize) -> u64 {
     let heads = [0, 0, 0, 0, 1, 1, 0, 2, 1];
@@ -188,7 +191,7 @@ fn place(loss: &Loss, at: u64, bit: usize) -> u64 {
     let stands = |bit: &usize| loss.map >> bit & 1 == 1;
     let before: u64 = (0..bit).filter(stands).map(|lower| heads[lower] + lengths[lower]).sum();
     if stands(&bit) {
-        at + 8 + before + heads[bit]
+        at + RECORD_HEAD + before + heads[bit]
     } else {
         0
     }

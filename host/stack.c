@@ -7,13 +7,13 @@
 #include <string.h>
 #include "writebehind.h"
 
-#define N 256
-#define B 64
-#define M 1024
+#define N WB_MOST_OBJECTS
+#define B WB_MOST_BLOCKS
+#define M WB_MOST_SLOTS
 #define STACK (1 << 20)
 #define PAINT 0xa5
 
-static uint8_t server[WB_VOLUME_BYTES(N, B)], view[WB_VOLUME_BYTES(N, B)], slots[WB_LOG_BYTES(M)], own[65536];
+static uint8_t server[WB_VOLUME_BYTES(N, B)], view[WB_VOLUME_BYTES(N, B)], slots[WB_LOG_BYTES(M)], own[B * WB_BLOCK_BYTES];
 static uint8_t saved_server[sizeof server], saved_view[sizeof view], saved_slots[sizeof slots];
 static uint64_t first, last;
 #define LENT N, B, M, server, sizeof server, view, sizeof view, slots, sizeof slots
@@ -30,8 +30,8 @@ static uint64_t make(void) { return wb_mkdir(LENT, 0, 0, (const uint8_t *)"new",
 static uint64_t remove_file(void) { return wb_remove_file(LENT, 0, 0, (const uint8_t *)"f200", 4).returned; }
 static uint64_t remove_directory(void) { return wb_remove_directory(LENT, 0, 0, (const uint8_t *)"d201", 4).returned; }
 static uint64_t rename_of(void) { return wb_rename(LENT, 0, 0, (const uint8_t *)"f200", 4, 0, (const uint8_t *)"f1", 2).returned; }
-static uint64_t write_of(void) { return wb_write(LENT, 0, 1, 0, own, 1024).returned; }
-static uint64_t write_across(void) { return wb_write(LENT, 0, 2, 0, own, 1024).returned; }
+static uint64_t write_of(void) { return wb_write(LENT, 0, 1, 0, own, WB_BLOCK_BYTES).returned; }
+static uint64_t write_across(void) { return wb_write(LENT, 0, 2, 0, own, WB_BLOCK_BYTES).returned; }
 static uint64_t setlen(void) { return wb_setlen(LENT, 0, 1, 0).returned; }
 static uint64_t forder(void) { return wb_forder(LENT, 0, (const uint8_t *)"\1\0\2\0", 4).returned; }
 static uint64_t push(void) { return wb_push(LENT, last).returned; }
@@ -85,7 +85,7 @@ static void prepare(void)
     for (i = 1; i <= 200; i++) {
         int length = sprintf(name, "f%d", i);
         expect(wb_push(LENT, wb_create(LENT, 0, 0, (const uint8_t *)name, (uint64_t)length, (uint64_t)i).value).returned, 0, "push");
-        expect(wb_push(LENT, wb_write(LENT, 0, (uint64_t)i, 0, own, 1024).value).returned, 0, "push");
+        expect(wb_push(LENT, wb_write(LENT, 0, (uint64_t)i, 0, own, WB_BLOCK_BYTES).value).returned, 0, "push");
     }
     expect(wb_push(LENT, wb_setlen(LENT, 0, 2, 1000).value).returned, 0, "push");
     expect(wb_push(LENT, wb_mkdir(LENT, 0, 0, (const uint8_t *)"d201", 4, 201).value).returned, 0, "push");

@@ -94,13 +94,18 @@ extern "C" {
 #define WB_LAST_SEQUENCE 4294967294     /* the greatest sequence number */
 #define WB_STACK_BYTES 40960            /* the most that a call takes; measured: 33,488 (host/stack) */
 
+/* The stored form (document 01): a volume is n entries, a log is a head and m slots. The bytes of a field stand in brackets. */
+#define WB_ENTRY_HEAD_BYTES 68  /* an entry up to its data: kind (1), name length (1), parent (2), name (60), file length (4) */
+#define WB_LOG_HEAD_BYTES 8     /* next sequence number (4), marked programs (4) */
+#define WB_SLOT_BYTES 1048      /* state (1), 3 zero bytes, dependents (4), a loss record, zeros */
+
 /* The bytes of a volume (server volume or view) of n objects and b blocks a file, and of a log of m slots. They are constant
  * expressions where their arguments are. */
-#define WB_VOLUME_BYTES(n, b) (UINT64_C(1) * (n) * (68 + UINT64_C(1024) * (b)))
-#define WB_LOG_BYTES(m) (8 + UINT64_C(1048) * (m))
+#define WB_VOLUME_BYTES(n, b) (UINT64_C(1) * (n) * (WB_ENTRY_HEAD_BYTES + UINT64_C(1) * WB_BLOCK_BYTES * (b)))
+#define WB_LOG_BYTES(m) (WB_LOG_HEAD_BYTES + UINT64_C(1) * WB_SLOT_BYTES * (m))
 
-/* A buffer of so many bytes holds every listing of a directory. */
-#define WB_LISTING_BYTES(n) (UINT64_C(64) * ((n) - 1))
+/* A buffer of so many bytes holds every listing of a directory: of a child number (2), kind (1), length of the name (1), name. */
+#define WB_LISTING_BYTES(n) ((UINT64_C(4) + WB_NAME_BYTES) * ((n) - 1))
 
 /* The returned numbers. */
 enum wb_returned {

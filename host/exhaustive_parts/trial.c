@@ -4,8 +4,6 @@
 #include <string.h>
 #include "numbers.h"
 
-enum { SLOT_BYTES = 1048, STATE_WAITING = 1, STATE_LOST = 2 };
-
 struct trial now;
 struct counts counts;
 
@@ -179,23 +177,23 @@ void unchanged(const char *what, const struct buffers *got, const struct buffers
 
 static void check_slot(const uint8_t *slot, uint64_t state, uint64_t dependents, uint64_t sequence)
 {
-    equal("the state of a slot", number_at(slot, 4), state);
-    equal("the sequence number of a slot", number_at(slot + 10, 4), sequence);
-    equal("the dependents of a slot", number_at(slot + 4, 4), dependents);
+    equal("the state of a slot", number_at(slot + STATE_AT, DEPENDENTS_AT - STATE_AT), state); /* the zero bytes behind it too */
+    equal("the sequence number of a slot", number_at(slot + RECORD_AT + RECORD_SEQUENCE_AT, 4), sequence);
+    equal("the dependents of a slot", number_at(slot + DEPENDENTS_AT, 4), dependents);
 }
 
 /* The used slots are those of the set, in issue order; without dependents they are lost, with them they wait. */
 static void check_log(const uint8_t *log, uint32_t marks, unsigned set, const uint32_t *dependents)
 {
     static const uint8_t zeros[LOG];
-    const uint8_t *slot = log + 8;
+    const uint8_t *slot = log + WB_LOG_HEAD_BYTES;
     uint64_t i;
-    equal("the next sequence number", number_at(log, 4), now.issued + 1);
-    equal("the marks", number_at(log + 4, 4), marks);
+    equal("the next sequence number", number_at(log + NEXT_AT, 4), now.issued + 1);
+    equal("the marks", number_at(log + MARKS_AT, 4), marks);
     for (i = 0; i < now.issued; i++)
         if (in(set, i)) {
             check_slot(slot, dependents ? STATE_WAITING : STATE_LOST, dependents ? dependents[i] : 0, i + 1);
-            slot += SLOT_BYTES;
+            slot += WB_SLOT_BYTES;
         }
     same("the log after its last used slot", slot, zeros, (size_t)(log + LOG - slot));
 }

@@ -23,9 +23,10 @@ struct across across_of(const struct call *call)
 {
     const uint64_t object = call->number[OBJECT], offset = call->number[OFFSET], count = call->length[OWN];
     struct across across = {0, 0, 0};
-    if (call->entry != WRITE || !is_usual(call) || object >= present.n || object_at(object)[0] != FILE_KIND)
+    if (call->entry != WRITE || !is_usual(call) || object >= present.n || object_at(object)[KIND_AT] != FILE_KIND)
         return across;
-    across.is = offset < length_of(object) && count <= 1024 - offset % 1024 && length_of(object) < offset + count;
+    across.is = offset < length_of(object) && count <= WB_BLOCK_BYTES - offset % WB_BLOCK_BYTES
+        && length_of(object) < offset + count;
     across.free = present.m - slots_used();
     across.left = WB_LAST_SEQUENCE + 1 - next_sequence();
     return across;

@@ -11,7 +11,7 @@ void text(struct call *call, enum buffer buffer, const void *bytes, uint64_t len
         put(buffer, length, 0, bytes, length);
 }
 
-/* Puts a name into a room of 60 bytes and gives its length. */
+/* Puts a name into a room of WB_NAME_BYTES and gives its length. */
 uint64_t a_name(uint8_t *name)
 {
     static const char *const names[] = {"a", "a", "a", "b", "b", "c", "Task", "task", "...", "\xff\x01.", "@", "[", "7", "Z\xc0",
@@ -63,7 +63,7 @@ static void place_for(struct call *call, enum number parent, enum buffer name, u
         return;
     }
     call->number[parent] = parent_of(object);
-    text(call, name, object_at(object) + 4, object_at(object)[1]);
+    text(call, name, object_at(object) + NAME_AT, object_at(object)[NAME_LENGTH_AT]);
 }
 
 /* The text that the call is lent becomes another spelling of it, or a text that nearly is one. */
@@ -96,10 +96,10 @@ static void choose_lookup(struct call *call)
     const uint64_t end = at + strlen(ending);
     memcpy(path + at, ending, strlen(ending));
     for (; object != 0 && object < present.n && at > 256; object = parent_of(object)) {
-        const uint64_t length = object_at(object)[1];
+        const uint64_t length = object_at(object)[NAME_LENGTH_AT];
         at -= length + 1;
         path[at] = '/';
-        memcpy(path + at + 1, object_at(object) + 4, length);
+        memcpy(path + at + 1, object_at(object) + NAME_AT, length);
     }
     if (at == end)
         path[--at] = '/';
@@ -124,7 +124,7 @@ static void choose_stat(struct call *call)
 static void choose_read(struct call *call)
 {
     const uint64_t object = call->number[OBJECT] = mostly(BIT(FILE_KIND));
-    const uint64_t length = length_of(object) % 65537, inside = below(length + 2), some = below(24);
+    const uint64_t length = length_of(object) % (LONGEST_FILE + 1), inside = below(length + 2), some = below(24);
     const uint64_t offset = call->number[OFFSET] = ONE_OF(0, length, inside, inside, inside);
     const uint64_t rest = offset < length ? length - offset : 0;
     room_for(call, ONE_OF(some, some, some, rest, rest + 1, rest > 0 ? rest - 1 : 0));
@@ -155,7 +155,7 @@ static void choose_place(struct call *call, uint32_t kinds)
 }
 
 /* Mostly an object of the kind that the call takes, else one of the other kind; now and then in a free object. */
-static void choose_remove(struct call *call)
+static void choose_removal(struct call *call)
 {
     const uint32_t right = call->entry == REMOVE_FILE ? BIT(FILE_KIND) : BIT(DIRECTORY);
     choose_place(call, chance(2, 3) ? right : ANY_USED & ~right);
@@ -170,7 +170,7 @@ static void name_again(struct call *call)
     const uint64_t object = sought(call->number[PARENT], name, call->length[OWN]);
     call->number[SECOND_PARENT] = call->number[PARENT];
     if (object < present.n && chance(1, 2))
-        text(call, SECOND_NAME, object_at(object) + 4, object_at(object)[1]);
+        text(call, SECOND_NAME, object_at(object) + NAME_AT, object_at(object)[NAME_LENGTH_AT]);
     else
         text(call, SECOND_NAME, name, call->length[OWN]);
 }
@@ -199,27 +199,29 @@ static void choose_rename(struct call *call)
 static uint64_t beside(struct call *call, uint64_t count)
 {
     const uint64_t used = slots_used();
-    const uint8_t *const record = slot_at(used > 0 ? below(used) : 0) + 8;
-    const uint64_t begin = number_at(record + 10, 4), end = begin + number_at(record + 14, 2);
-    if (record[7] != 5 || chance(1, 2))
+    const uint8_t *const record = slot_at(used > 0 ? below(used) : 0) + RECORD_AT;
+    const uint8_t *const fields = record + RECORD_FIELDS_AT; /* of an overwrite: object (2), offset (4), data (length 2, bytes) */
+    const uint64_t begin = number_at(fields + 2, 4), end = begin + number_at(fields + 6, 2);
+    if (record[RECORD_KIND_AT] != 5 || chance(1, 2))
         return call->number[OFFSET];
-    call->number[OBJECT] = record[8];
+    call->number[OBJECT] = fields[0];
     return ONE_OF(end, end - 1, begin > count ? begin - count : 0, begin + 1 > count ? begin + 1 - count : 0);
 }
 
-/* So many bytes that the call writes; of more than 1,025 only these. */
+/* So many bytes that the call writes, but at most one more than a block has. */
 static void put_data(struct call *call, uint64_t count)
 {
-    uint64_t data[(1025 + 7) / 8], i;
+    enum { MOST = WB_BLOCK_BYTES + 1 };
+    uint64_t data[(MOST + 7) / 8], i;
     for (i = 0; i < sizeof data / sizeof *data; i++)
         data[i] = any();
-    text(call, OWN, data, count < 1025 ? count : 1025);
+    text(call, OWN, data, count < MOST ? count : MOST);
 }
 
 /* A few bytes before the end of the file and a few behind it, or all of the block, or one byte more than the block has. */
 static void choose_across(struct call *call, uint64_t length)
 {
-    const uint64_t begun = length % 1024, rest = 1024 - begun, few = 1 + below(6), more = 1 + below(6);
+    const uint64_t begun = length % WB_BLOCK_BYTES, rest = WB_BLOCK_BYTES - begun, few = 1 + below(6), more = 1 + below(6);
     const uint64_t before = ONE_OF(few, few, few, few, begun, begun + 1), old = before < begun ? before : begun;
     const uint64_t behind = ONE_OF(more, more, more, more, rest, rest + 1);
     call->number[OFFSET] = length - (chance(1, 12) && before <= length ? before : old);
@@ -229,11 +231,11 @@ static void choose_across(struct call *call, uint64_t length)
 /* An overwrite or an append of a few bytes, now and then of many, or one that just does not fit; often a write across the end. */
 static void choose_write(struct call *call)
 {
-    static const uint64_t counts[] = {0, 100, 300, 512, 1020, 1023, 1024, 1025};
-    const uint64_t length = length_of(call->number[OBJECT] = mostly(BIT(FILE_KIND))) % 65537;
-    const uint64_t inside = below(length + 2), block = length / 1024 * 1024, few = 1 + below(6);
+    static const uint64_t counts[] = {0, 100, 300, 512, WB_BLOCK_BYTES - 4, WB_BLOCK_BYTES - 1, WB_BLOCK_BYTES, WB_BLOCK_BYTES + 1};
+    const uint64_t length = length_of(call->number[OBJECT] = mostly(BIT(FILE_KIND))) % (LONGEST_FILE + 1);
+    const uint64_t inside = below(length + 2), block = length / WB_BLOCK_BYTES * WB_BLOCK_BYTES, few = 1 + below(6);
     const uint64_t offset = call->number[OFFSET] = ONE_OF(length, length, inside, inside, inside, 0, block);
-    const uint64_t room = offset < length ? length - offset : 1024 - offset % 1024;
+    const uint64_t room = offset < length ? length - offset : WB_BLOCK_BYTES - offset % WB_BLOCK_BYTES;
     if (length > 0 && chance(1, 3)) {
         choose_across(call, length);
         return;
@@ -244,9 +246,9 @@ static void choose_write(struct call *call)
 
 static void choose_setlen(struct call *call)
 {
-    const uint64_t most = 1024 * present.b, length = length_of(call->number[OBJECT] = mostly(BIT(FILE_KIND)));
+    const uint64_t most = WB_BLOCK_BYTES * present.b, length = length_of(call->number[OBJECT] = mostly(BIT(FILE_KIND)));
     const uint64_t few = below(20), any_length = below(most + 2);
-    call->number[LENGTH] = ONE_OF(few, few, few, length, any_length, most, most - 1, most + 1, most - 512, 1024);
+    call->number[LENGTH] = ONE_OF(few, few, few, length, any_length, most, most - 1, most + 1, most - 512, WB_BLOCK_BYTES);
 }
 
 static void choose_forder(struct call *call)
@@ -274,10 +276,10 @@ static void choose_fsync(struct call *call)
 
 static void choose_take(struct call *call)
 {
-    const uint64_t lost = slots_lost();
+    const uint64_t lost = slots_lost(), least = WB_RECORD_BYTES;
     if (lost > 0 && !chance(1, 8))
         call->number[PROGRAM] = issuer_of(below(lost));
-    room_for(call, ONE_OF(1040, 1040, 1040, 1040, 1040, 1041, 1100, 1039, 30, 0));
+    room_for(call, ONE_OF(least, least, least, least, least, least + 1, 1100, least - 1, 30, 0));
 }
 
 /* A marked program, if there is one among a few. */
@@ -288,7 +290,7 @@ static void choose_renew(struct call *call)
         call->number[PROGRAM] = ONE_OF(0, 1, 2, 3, 31);
 }
 
-/* Records one behind the other, of the log or made anew, and the place of one of them. */
+/* Records one behind the other, of the log or made here, and the place of one of them. */
 static void choose_record(struct call *call)
 {
     static uint8_t row[5 * (WB_RECORD_BYTES + 8)];
@@ -298,9 +300,9 @@ static void choose_record(struct call *call)
         struct wb_loss found;
         places[i] = end;
         if (used > 0 && chance(1, 2))
-            memcpy(row + end, slot_at(below(used)) + 8, WB_RECORD_BYTES);
+            memcpy(row + end, slot_at(below(used)) + RECORD_AT, WB_RECORD_BYTES);
         else
-            make_record(row + end, ONE_OF(1, 1, 7, 65536, WB_LAST_SEQUENCE, WIDE - 1), 256, 65536);
+            make_record(row + end, ONE_OF(1, 1, 7, 65536, WB_LAST_SEQUENCE, WIDE - 1), WB_MOST_OBJECTS, LONGEST_FILE);
         found = second_record(end, row, end + WB_RECORD_BYTES);
         end = found.returned == WB_ACCEPTED ? found.next : end + 20;
     }
@@ -310,7 +312,7 @@ static void choose_record(struct call *call)
     changed = places[below(4)];
     changed += below(chance(3, 4) ? 20 : end + 1);
     if (chance(1, 4))
-        row[changed] = (uint8_t)ONE_OF(0, 1, 2, 46, 47, 61, 255, junk, row[8], row[10]);
+        row[changed] = (uint8_t)ONE_OF(0, 1, 2, 46, 47, 61, 255, junk, row[RECORD_FIELDS_AT], row[RECORD_FIELDS_AT + 2]);
     end += junk;
     text(call, OWN, row, chance(1, 6) ? below(end + 1) : end);
     call->number[AT] = chance(1, 8) ? below(end + 2) : places[below(4)];
@@ -380,7 +382,7 @@ void choose(struct call *call)
 {
     static void (*const choosers[ENTRY_COUNT])(struct call *) = {[LOOKUP] = choose_lookup, [LIST] = choose_list,
         [STAT] = choose_stat, [READ] = choose_read, [CREATE] = choose_create, [MKDIR] = choose_create,
-        [REMOVE_FILE] = choose_remove, [REMOVE_DIRECTORY] = choose_remove, [RENAME] = choose_rename, [WRITE] = choose_write,
+        [REMOVE_FILE] = choose_removal, [REMOVE_DIRECTORY] = choose_removal, [RENAME] = choose_rename, [WRITE] = choose_write,
         [SETLEN] = choose_setlen, [FORDER] = choose_forder, [PUSH] = choose_push, [FSYNC] = choose_fsync, [TAKE] = choose_take,
         [RENEW] = choose_renew, [RECORD] = choose_record};
     lend_present(call, choose_entry());

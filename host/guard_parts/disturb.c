@@ -57,10 +57,10 @@ static struct place place_of(uint64_t object, uint64_t n, int real)
     struct place place;
     place.parent = chance(2, 3) ? 0 : below(n);
     place.length = a_name(place.name);
-    if (real && object_at(object)[1] > 0 && object_at(object)[1] <= WB_NAME_BYTES) {
+    if (real && object_at(object)[NAME_LENGTH_AT] > 0 && object_at(object)[NAME_LENGTH_AT] <= WB_NAME_BYTES) {
         place.parent = parent_of(object) % n;
-        place.length = object_at(object)[1];
-        memcpy(place.name, object_at(object) + 4, place.length);
+        place.length = object_at(object)[NAME_LENGTH_AT];
+        memcpy(place.name, object_at(object) + NAME_AT, place.length);
         if (chance(1, 3))
             respell(place.name, place.length);
     }
@@ -77,9 +77,11 @@ static uint8_t *add_name(uint8_t *at, const struct place *place)
 /* An offset, mostly this one, and data in its block. */
 static uint8_t *add_data(uint8_t *at, uint64_t offset, uint64_t longest)
 {
-    const uint64_t block = below(longest / 1024) * 1024, within = ONE_OF(0, 0, 1, 2, 4, 1000, 1023);
+    const uint64_t block = below(longest / WB_BLOCK_BYTES) * WB_BLOCK_BYTES;
+    const uint64_t within = ONE_OF(0, 0, 1, 2, 4, 1000, WB_BLOCK_BYTES - 1);
     const uint64_t begin = offset < longest && chance(1, 2) ? offset : block + within;
-    const uint64_t room = 1024 - begin % 1024, few = 1 + below(5), count = chance(1, 20) || few > room ? room : few;
+    const uint64_t room = WB_BLOCK_BYTES - begin % WB_BLOCK_BYTES, few = 1 + below(5);
+    const uint64_t count = chance(1, 20) || few > room ? room : few;
     at = add(at, begin, 4);
     at = add(at, count, 2);
     memset(at, (int)below(256), count);
@@ -138,15 +140,17 @@ static void make_log(void)
     uint64_t sequence = ONE_OF(0, 0, 5, 4294960000), slot;
     memset(log, 0, WB_LOG_BYTES(present.m));
     for (slot = 0; slot < count; slot++) {
-        uint8_t *const at = log + LOG_HEAD + slot * SLOT_BYTES;
+        uint8_t *const at = log + WB_LOG_HEAD_BYTES + slot * WB_SLOT_BYTES, *const record = at + RECORD_AT;
+        uint32_t issuer;
         sequence += 1 + below(3);
-        at[0] = slot < lost ? 2 : 1;
-        make_record(at + 8, sequence, present.n, 1024 * present.b);
+        at[STATE_AT] = slot < lost ? STATE_LOST : STATE_WAITING;
+        make_record(record, sequence, present.n, WB_BLOCK_BYTES * present.b);
+        issuer = BIT(record[RECORD_PROGRAM_AT]);
         if (slot >= lost)
-            put_number(at + 4, ONE_OF(BIT(at[14]), BIT(at[14]), 0, 5, BIT(31), UINT32_MAX), 4);
+            put_number(at + DEPENDENTS_AT, ONE_OF(issuer, issuer, 0, 5, BIT(31), UINT32_MAX), 4);
     }
-    put_number(log, ONE_OF(sequence + 1, sequence + 1, sequence + 9, WIDE - 1, WIDE - 2, WIDE - 3), 4);
-    put_number(log + 4, ONE_OF(0, 0, 0, 4, BIT(31)), 4);
+    put_number(log + NEXT_AT, ONE_OF(sequence + 1, sequence + 1, sequence + 9, WIDE - 1, WIDE - 2, WIDE - 3), 4);
+    put_number(log + MARKS_AT, ONE_OF(0, 0, 0, 4, BIT(31)), 4);
     put(LOG, WB_LOG_BYTES(present.m), 0, log, WB_LOG_BYTES(present.m));
 }
 
@@ -157,22 +161,24 @@ void make_volume(void)
     const uint64_t length = present_length(SERVER), directories = ONE_OF(1, 2, 2, 4, 12);
     uint64_t object;
     memset(volume, 0, length);
-    volume[0] = DIRECTORY;
+    volume[KIND_AT] = DIRECTORY;
     for (object = 1; object < present.n; object++) {
         uint8_t *const at = volume + object * ENTRY_BYTES;
-        const uint64_t parent = below(object), bytes = chance(1, 4) ? below(1024 * present.b + 1) : below(12);
-        if (volume[parent * ENTRY_BYTES] != DIRECTORY || chance(1, 3))
+        const uint64_t parent = below(object), bytes = chance(1, 4) ? below(WB_BLOCK_BYTES * present.b + 1) : below(12);
+        uint64_t name;
+        if (volume[parent * ENTRY_BYTES + KIND_AT] != DIRECTORY || chance(1, 3))
             continue;
-        at[0] = chance(directories, 16) ? DIRECTORY : FILE_KIND;
-        put_number(at + 2, parent, 2);
-        at[1] = (uint8_t)ONE_OF(2, 2, 2, 59, 60);
-        memset(at + 4, 'a' + (int)(object % 16), at[1]);
-        at[3 + at[1]] = (uint8_t)('a' + object / 16);
+        at[KIND_AT] = chance(directories, 16) ? DIRECTORY : FILE_KIND;
+        put_number(at + PARENT_AT, parent, 2);
+        name = ONE_OF(2, 2, 2, WB_NAME_BYTES - 1, WB_NAME_BYTES);
+        at[NAME_LENGTH_AT] = (uint8_t)name;
+        memset(at + NAME_AT, 'a' + (int)(object % 16), name);
+        at[NAME_AT + name - 1] = (uint8_t)('a' + object / 16);
         if (chance(1, 2))
-            respell(at + 4, at[1]);
-        if (at[0] == FILE_KIND) {
-            put_number(at + 64, bytes, 4);
-            memset(at + 68, (int)below(256), bytes);
+            respell(at + NAME_AT, name);
+        if (at[KIND_AT] == FILE_KIND) {
+            put_number(at + LENGTH_AT, bytes, 4);
+            memset(at + DATA_AT, (int)below(256), bytes);
         }
     }
     put(SERVER, length, 0, volume, length);
@@ -184,20 +190,21 @@ void make_volume(void)
 static uint64_t place_in_log(void)
 {
     static const uint64_t within[] = {0, 0, 1, 3, 4, 7, 8, 8, 9, 10, 10, 13, 14, 14, 15, 15, 16, 17, 18, 19, 20, 21, 22, 23, 24,
-        25, 28, 40, 1047};
+        25, 28, 40, WB_SLOT_BYTES - 1};
     const uint64_t used = slots_used(), slot = below(used < present.m ? used + 1 : used);
     if (chance(1, 10))
-        return below(LOG_HEAD);
-    return LOG_HEAD + slot * SLOT_BYTES + (chance(1, 10) ? below(SLOT_BYTES) : PICK(within));
+        return below(WB_LOG_HEAD_BYTES);
+    return WB_LOG_HEAD_BYTES + slot * WB_SLOT_BYTES + (chance(1, 10) ? below(WB_SLOT_BYTES) : PICK(within));
 }
 
 /* A byte of a volume: of the head, name or length of an entry, at the end of the file, or anywhere. */
 static uint64_t place_in_volume(void)
 {
-    const uint64_t object = below(present.n), length = length_of(object) % (1024 * present.b);
-    const uint64_t name = 4 + object_at(object)[1] % 60u, anywhere = below(ENTRY_BYTES);
-    return object * ENTRY_BYTES + ONE_OF(0, 0, 1, 2, 2, 3, 4, 5, name, name - 1, 63, 64, 65, 66, 67, 68 + length, ENTRY_BYTES - 1,
-                                         anywhere);
+    const uint64_t object = below(present.n), end = DATA_AT + length_of(object) % (WB_BLOCK_BYTES * present.b);
+    const uint64_t name = NAME_AT + object_at(object)[NAME_LENGTH_AT] % WB_NAME_BYTES, anywhere = below(ENTRY_BYTES);
+    return object * ENTRY_BYTES + ONE_OF(KIND_AT, KIND_AT, NAME_LENGTH_AT, PARENT_AT, PARENT_AT, PARENT_AT + 1, NAME_AT,
+                                         NAME_AT + 1, name, name - 1, LENGTH_AT - 1, LENGTH_AT, LENGTH_AT + 1, LENGTH_AT + 2,
+                                         LENGTH_AT + 3, end, ENTRY_BYTES - 1, anywhere);
 }
 
 static void damage(void)
@@ -234,18 +241,18 @@ static void spell_twice(void)
     const uint8_t *const stored = entry_at(volume, first);
     uint8_t name[1 + WB_NAME_BYTES] = {0};
     uint64_t i;
-    if (!is_sound() || stored[0] == FREE)
+    if (!is_sound() || stored[KIND_AT] == FREE)
         return;
-    name[0] = stored[1];
-    memcpy(name + 1, stored + 4, stored[1]);
+    name[0] = stored[NAME_LENGTH_AT];
+    memcpy(name + 1, stored + NAME_AT, name[0]);
     respell(name + 1, name[0]);
-    for (i = from; i < from + present.n && twice == LOG && memcmp(name + 1, stored + 4, name[0]) != 0; i++) {
+    for (i = from; i < from + present.n && twice == LOG && memcmp(name + 1, stored + NAME_AT, name[0]) != 0; i++) {
         const uint64_t second = i % present.n;
         const uint8_t *const other = entry_at(volume, second);
-        if (second == 0 || second == first || other[0] == FREE || memcmp(other + 2, stored + 2, 2) != 0)
+        if (second == 0 || second == first || other[KIND_AT] == FREE || memcmp(other + PARENT_AT, stored + PARENT_AT, 2) != 0)
             continue;
-        put(volume, present_length(volume), second * ENTRY_BYTES + 1, name, 1);
-        put(volume, present_length(volume), second * ENTRY_BYTES + 4, name + 1, WB_NAME_BYTES);
+        put(volume, present_length(volume), second * ENTRY_BYTES + NAME_LENGTH_AT, name, 1);
+        put(volume, present_length(volume), second * ENTRY_BYTES + NAME_AT, name + 1, WB_NAME_BYTES);
         twice = volume;
     }
 }
@@ -255,7 +262,7 @@ static void near_the_end(void)
 {
     uint8_t next[4];
     put_number(next, ONE_OF(WIDE - 1, WIDE - 2, WIDE - 2, WIDE - 3, WIDE - 3, WIDE - 4), 4);
-    put(LOG, present_length(LOG), 0, next, sizeof next);
+    put(LOG, present_length(LOG), NEXT_AT, next, sizeof next);
 }
 
 /* Now and then changes the buffers, after some calls undoes it, or leaves it so. */

@@ -1,7 +1,7 @@
 /* What guard and its parts share: guard.c makes the calls and compares, memory.c lends the buffers, state.c reads what
  * they hold, calls.c chooses sensible calls, wild.c makes arguments wild, disturb.c changes the buffers, across.c counts the
- * answers to writes across the end of a file, choice.c those to the two removes, spelling.c spells names in other ways and counts
- * the answers to them. */
+ * answers to writes across the end of a file, removal.c those to the two removals, spelling.c spells names in other ways and
+ * counts the answers to them. */
 #ifndef GUARD_H
 #define GUARD_H
 
@@ -78,15 +78,13 @@ extern struct progress progress;
 void catch_signals(void);
 const char *commas(uint64_t number); /* the number with commas, in one of a few rooms by turns */
 
-/* ---- What the buffers hold now ---- */
+/* ---- What the buffers hold ---- */
 struct geometry {
     uint64_t n, b, m;
 };
 extern struct geometry present;
 enum kind { FREE, FILE_KIND, DIRECTORY };
-#define ENTRY_BYTES (68 + 1024 * present.b)
-#define SLOT_BYTES 1048
-#define LOG_HEAD 8
+#define ENTRY_BYTES (WB_ENTRY_HEAD_BYTES + WB_BLOCK_BYTES * present.b)
 uint64_t present_length(enum buffer buffer);
 int is_usual(const struct call *call); /* it is given n, b and m as they are, and buffers of the lengths that go with them */
 const uint8_t *entry_at(enum buffer volume, uint64_t object);
@@ -123,15 +121,15 @@ struct across across_of(const struct call *call);
 void count_across(struct across across, uint64_t returned);
 unsigned say_across(void); /* prints how often each answer came, and gives how many never did */
 
-/* ---- Remove file and remove directory, on objects of either kind ---- */
-int is_remove(enum entry entry);
-struct choice {
-    enum { NO_CHOICE, A_FILE, AN_EMPTY_DIRECTORY, A_FILLED_DIRECTORY, NO_NAME, IN_A_FILE, IN_NOTHING, PLACES } place;
+/* ---- The two removals, remove file and remove directory, on objects of either kind ---- */
+int is_removal(enum entry entry);
+struct removal {
+    enum { NO_REMOVAL, A_FILE, AN_EMPTY_DIRECTORY, A_FILLED_DIRECTORY, NO_NAME, IN_A_FILE, IN_NOTHING, PLACES } place;
     enum { ROOM_LEFT, NO_SLOT, NO_NUMBER, ROOMS } room; /* whether one more operation can wait */
 };
-struct choice choice_of(const struct call *call); /* what stands where the call is to remove, as far as name and view tell */
-void count_choice(struct choice choice, const struct call *call, uint64_t returned);
-unsigned say_choice(void); /* prints how often each answer came, and gives how many never did */
+struct removal removal_of(const struct call *call); /* what stands where the call is to remove, as far as name and view tell */
+void count_removal(struct removal removal, const struct call *call, uint64_t returned);
+unsigned say_removal(void); /* prints how often each answer came, and gives how many never did */
 
 /* ---- Names that differ in A to Z against a to z, which are the same, and names that nearly do, which are not ---- */
 /* The object of the view that a name leads to, in whatever spelling; n if there is none. */
@@ -139,7 +137,7 @@ uint64_t sought(uint64_t directory, const uint8_t *name, uint64_t length);
 void respell(uint8_t *text, uint64_t length); /* the case of some letters changes */
 void shift(uint8_t *text, uint64_t length);   /* a byte changes by 32, mostly to one that is another */
 enum spelling {
-    FOUND,              /* lookup, the removes, rename, push: an object is found by another spelling */
+    FOUND,              /* lookup, the removals, rename, push: an object is found by another spelling */
     THERE,              /* create, mkdir: the name is there in another spelling, and the number is free */
     CASE_OF_FILE,       /* rename: only the case of the stored name changes */
     CASE_OF_DIRECTORY,  /* the same of a directory with children */
@@ -149,7 +147,7 @@ enum spelling {
 struct spelt {
     uint32_t is;        /* bits of enum spelling, as far as names and the view tell, or of a push the server volume */
     int made;           /* create, mkdir, rename: the new name is absent, and one is there that differs in such a pair of bytes */
-    int not_found;      /* lookup, the removes: the same of the name sought */
+    int not_found;      /* lookup, the removals: the same of the name sought */
     enum buffer twice;  /* the volume in which two spellings of a name stand in one directory; LOG if there is none */
 };
 struct spelt spelt_of(const struct call *call);

@@ -95,21 +95,21 @@ void shift(uint8_t *text, uint64_t length)
 /* ---- What the view has under a name ---- */
 static int is_child(uint64_t object, uint64_t directory)
 {
-    return object_at(object)[0] != FREE && parent_of(object) == directory;
+    return object_at(object)[KIND_AT] != FREE && parent_of(object) == directory;
 }
 
 uint64_t sought(uint64_t directory, const uint8_t *name, uint64_t length)
 {
     uint64_t object = 1;
-    while (object < present.n
-           && (!is_child(object, directory) || !same_name(object_at(object) + 4, object_at(object)[1], name, length)))
+    while (object < present.n && (!is_child(object, directory)
+               || !same_name(object_at(object) + NAME_AT, object_at(object)[NAME_LENGTH_AT], name, length)))
         object++;
     return object;
 }
 
 static int spelt_alike(uint64_t object, const uint8_t *name, uint64_t length)
 {
-    return object_at(object)[1] == length && memcmp(object_at(object) + 4, name, length) == 0;
+    return object_at(object)[NAME_LENGTH_AT] == length && memcmp(object_at(object) + NAME_AT, name, length) == 0;
 }
 
 /* The pair that two bytes are. */
@@ -143,8 +143,8 @@ static int near_one(uint64_t directory, const uint8_t *name, uint64_t length)
     uint64_t object;
     int pair = NO_PAIR;
     for (object = 1; object < present.n && pair == NO_PAIR; object++)
-        if (is_child(object, directory) && object_at(object)[1] == length)
-            pair = pair_of_names(object_at(object) + 4, name, length);
+        if (is_child(object, directory) && object_at(object)[NAME_LENGTH_AT] == length)
+            pair = pair_of_names(object_at(object) + NAME_AT, name, length);
     return pair;
 }
 
@@ -188,7 +188,7 @@ static void make_new(struct spelt *spelt, const struct call *call, struct text n
     const uint64_t object = sought(call->number[PARENT], name.bytes, name.length);
     if (object == present.n)
         spelt->made = near_one(call->number[PARENT], name.bytes, name.length);
-    else if (call->number[OBJECT] < present.n && object_at(call->number[OBJECT])[0] == FREE
+    else if (call->number[OBJECT] < present.n && object_at(call->number[OBJECT])[KIND_AT] == FREE
              && !spelt_alike(object, name.bytes, name.length))
         spelt->is |= BIT(THERE);
 }
@@ -206,7 +206,7 @@ static void rename_one(struct spelt *spelt, const struct call *call, struct text
         spelt->is |= there == object && HAS(spelt->is, FOUND) ? BIT(STORED) : 0;
     else if (there != object)
         spelt->is |= BIT(DISPLACED);
-    else if (object_at(object)[0] == FILE_KIND)
+    else if (object_at(object)[KIND_AT] == FILE_KIND)
         spelt->is |= BIT(CASE_OF_FILE);
     else if (listing_of(object) > 0)
         spelt->is |= BIT(CASE_OF_DIRECTORY);
@@ -219,10 +219,12 @@ static void push_one(struct spelt *spelt, uint64_t sequence)
     const uint64_t used = slots_used();
     while (slot < used && sequence_of(slot) != sequence)
         slot++;
-    if (slot < used && (slot_at(slot)[15] == 3 || slot_at(slot)[15] == 4)) {
-        const uint8_t *const record = slot_at(slot) + 8, *const stored = entry_at(SERVER, record[8] % present.n);
-        const uint8_t *const name = record + (record[0] == 19 ? 12 : record[0] == 55 ? 14 : 16);
-        if (name[0] == stored[1] && memcmp(name + 1, stored + 4, name[0]) != 0)
+    if (slot < used) {
+        const uint8_t *const record = slot_at(slot) + RECORD_AT, *const fields = record + RECORD_FIELDS_AT;
+        const uint8_t map = record[RECORD_MAP_AT], kind = record[RECORD_KIND_AT];
+        const uint8_t *const name = fields + (map == 19 ? 4 : map == 55 ? 6 : 8); /* behind the objects, 2 bytes each */
+        const uint8_t *const stored = entry_at(SERVER, fields[0] % present.n);
+        if ((kind == 3 || kind == 4) && name[0] == stored[NAME_LENGTH_AT] && memcmp(name + 1, stored + NAME_AT, name[0]) != 0)
             spelt->is |= BIT(FOUND);
     }
 }
@@ -239,7 +241,7 @@ struct spelt spelt_of(const struct call *call)
     else if (call->entry == PUSH)
         push_one(&spelt, call->number[SEQUENCE]);
     else if (HAS(shapes[call->entry].numbers, PARENT) && own.length <= WB_NAME_BYTES) {
-        if (is_remove(call->entry))
+        if (is_removal(call->entry))
             find(&spelt, call->number[PARENT], own);
         else if (call->entry == RENAME)
             rename_one(&spelt, call, text_of(call, SECOND_NAME));

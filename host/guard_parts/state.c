@@ -47,66 +47,71 @@ const uint8_t *object_at(uint64_t object)
     return entry_at(VIEW, object);
 }
 
+static const uint8_t *log_held(void)
+{
+    return copy_of(LOG, present_length(LOG));
+}
+
 const uint8_t *slot_at(uint64_t slot)
 {
-    return copy_of(LOG, present_length(LOG)) + LOG_HEAD + slot * SLOT_BYTES;
+    return log_held() + WB_LOG_HEAD_BYTES + slot * WB_SLOT_BYTES;
 }
 
 uint64_t parent_of(uint64_t object)
 {
-    return number_at(object_at(object) + 2, 2);
+    return number_at(object_at(object) + PARENT_AT, 2);
 }
 
 uint64_t length_of(uint64_t object)
 {
-    return object < present.n ? number_at(object_at(object) + 64, 4) : 0;
+    return object < present.n ? number_at(object_at(object) + LENGTH_AT, 4) : 0;
 }
 
 uint64_t listing_of(uint64_t directory)
 {
     uint64_t object, bytes = 0;
     for (object = 1; object < present.n; object++)
-        if (object_at(object)[0] != FREE && parent_of(object) == directory)
-            bytes += 4 + object_at(object)[1];
+        if (object_at(object)[KIND_AT] != FREE && parent_of(object) == directory)
+            bytes += 4 + object_at(object)[NAME_LENGTH_AT];
     return bytes;
 }
 
 static uint64_t slots_until(uint8_t state)
 {
     uint64_t slot = 0;
-    while (slot < present.m && slot_at(slot)[0] != 0 && slot_at(slot)[0] != state)
+    while (slot < present.m && slot_at(slot)[STATE_AT] != STATE_FREE && slot_at(slot)[STATE_AT] != state)
         slot++;
     return slot;
 }
 
 uint64_t slots_used(void)
 {
-    return slots_until(0);
+    return slots_until(STATE_FREE);
 }
 
 uint64_t slots_lost(void)
 {
-    return slots_until(1);
+    return slots_until(STATE_WAITING);
 }
 
 uint64_t sequence_of(uint64_t slot)
 {
-    return number_at(slot_at(slot) + 10, 4);
+    return number_at(slot_at(slot) + RECORD_AT + RECORD_SEQUENCE_AT, 4);
 }
 
 uint64_t issuer_of(uint64_t slot)
 {
-    return slot_at(slot)[14];
+    return slot_at(slot)[RECORD_AT + RECORD_PROGRAM_AT];
 }
 
 uint64_t next_sequence(void)
 {
-    return number_at(slot_at(0) - LOG_HEAD, 4);
+    return number_at(log_held() + NEXT_AT, 4);
 }
 
 uint64_t marks(void)
 {
-    return number_at(slot_at(0) - 4, 4);
+    return number_at(log_held() + MARKS_AT, 4);
 }
 
 int marked(uint64_t program)
@@ -120,7 +125,7 @@ static uint64_t seek(uint32_t kinds)
     const uint64_t from = below(present.n);
     uint64_t i;
     for (i = from; i < from + present.n; i++) {
-        const uint8_t kind = object_at(i % present.n)[0];
+        const uint8_t kind = object_at(i % present.n)[KIND_AT];
         if (kind <= DIRECTORY && HAS(kinds, kind))
             return i % present.n;
     }

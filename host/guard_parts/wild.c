@@ -16,8 +16,8 @@ static uint64_t wild_number(uint64_t given)
 static uint64_t wild_length(uint64_t right)
 {
     const uint64_t some = below(70000);
-    return ONE_OF(0, 0, right + 1, right - 1, right + 1, right - 1, right + 1024, right + 1048, right - 1048, right + 65536,
-                  right + WIDE, right + WIDE, WIDE, 8, some);
+    return ONE_OF(0, 0, right + 1, right - 1, right + 1, right - 1, right + WB_BLOCK_BYTES, right + WB_SLOT_BYTES,
+                  right - WB_SLOT_BYTES, right + 65536, right + WIDE, right + WIDE, WIDE, WB_LOG_HEAD_BYTES, some);
 }
 
 /* n, b and m a little greater or less, perhaps out of range, with lengths that fit them; the buffers hold what they hold. */
@@ -77,9 +77,10 @@ static void wild_list(struct call *call)
 /* A buffer, data or row of records of another length; it holds what is there. */
 static void wild_own(struct call *call)
 {
-    const uint64_t length = call->length[OWN] % WIDE, some = below(1100);
+    const uint64_t length = call->length[OWN] % WIDE, some = below(1100), block = WB_BLOCK_BYTES, record = WB_RECORD_BYTES;
     call->length[OWN] = ONE_OF(0, 0, length + 1, length + 1, length > 0 ? length - 1 : 0, length > 0 ? length - 1 : 0, some, some,
-                               1023, 1024, 1025, 1039, 1040, 1041, 2048, length + 65536, length + WIDE, WIDE);
+                               block - 1, block, block + 1, record - 1, record, record + 1, 2 * block, length + 65536,
+                               length + WIDE, WIDE);
     if (call->entry == FORDER || HAS(shapes[call->entry].numbers, PARENT))
         call->length[OWN] %= WIDE; /* these texts are read to their end */
     if (call->entry == RECORD && call->length[OWN] > WIDE && placement == ENDS)

@@ -90,7 +90,7 @@ static void print_across(const struct host *host, const struct burst *burst)
 }
 
 /* What became of the renames that change only the case and waited; nothing is printed where there was none. */
-static void print_case(const struct host *host, const struct burst *burst)
+static void print_spellings(const struct host *host, const struct burst *burst)
 {
     uint64_t i, count = 0, sent = 0;
     for (i = 0; i < burst->count; i++) {
@@ -111,7 +111,7 @@ static void print_lost(const struct host *host, const struct burst *burst, uint6
     printf("  %lu operation%s waited: %lu still sent, %lu lost.\n", (unsigned long)burst->count, plural(burst->count),
            (unsigned long)(burst->count - host->lost_count), (unsigned long)host->lost_count);
     print_across(host, burst);
-    print_case(host, burst);
+    print_spellings(host, burst);
     print_programs(host, "  lost, by program:", losers, 1);
     print_programs(host, "  marked:          ", host->marked, 0);
     print_programs(host, "  not marked:      ", class_set & ~host->marked, 0);

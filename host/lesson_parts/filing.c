@@ -21,7 +21,7 @@ static uint64_t remove_object(struct host *host, struct pupil *pupil, uint64_t o
     if (object == 0)
         return WB_ACCEPTED;
     name = typed(host, name_of(host, object));
-    if (one_in(&host->clearing, kind == FILE_ENTRY ? 8 : 3))
+    if (one_in(&host->removal, kind == FILE_ENTRY ? 8 : 3))
         remove_wrongly(host, pupil->program, object, name);
     return do_remove(host, pupil->program, kind, parent_at(&host->own, object), name);
 }

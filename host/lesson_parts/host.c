@@ -90,7 +90,7 @@ void open_host(struct host *host, const struct options *options)
     host->log_length = WB_LOG_BYTES(host->m);
     host->chance.state = options->seed;
     host->typing.state = ~options->seed;
-    host->clearing.state = options->seed ^ UINT64_C(1) << 63;
+    host->removal.state = options->seed ^ UINT64_C(1) << 63;
     host->server_file = options->server;
     host->measure.started = time_now();
     host->view = fresh_volume(host);

@@ -54,7 +54,7 @@ struct host {
     int went_on;                     /* the file was there already */
     int happened[EVENTS];
     struct chance chance, typing;    /* how names are typed has a chance of its own, which changes nothing else; */
-    struct chance clearing;          /* so has the choice between the two calls that remove */
+    struct chance removal;           /* so has the choice between the two removals */
     struct measure measure;
 };
 

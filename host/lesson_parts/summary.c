@@ -99,8 +99,8 @@ static void print_spellings(const struct host *host)
     printf("  renames that changed only the case: %lu, of which %lu were lost\n", (unsigned long)count, (unsigned long)lost);
 }
 
-/* How many objects were given to the wrong one of the two calls that remove. */
-static void print_wrong(const struct host *host)
+/* How many objects were given to the wrong one of the two removals. */
+static void print_removals(const struct host *host)
 {
     printf("  removes refused over the wrong call: %lu (files %lu, empty directories %lu, directories with children %lu)\n",
            (unsigned long)(host->wrong_files + host->wrong_empty + host->wrong_filled), (unsigned long)host->wrong_files,
@@ -122,7 +122,7 @@ void print_summary(const struct host *host, const struct class *class)
     print_kinds(host);
     print_across(host);
     print_spellings(host);
-    print_wrong(host);
+    print_removals(host);
     printf("  sent: %lu, of which %lu by push and %lu by fsync; %lu went before one that was issued earlier\n",
            (unsigned long)host->sent_count, (unsigned long)host->pushed, (unsigned long)(host->sent_count - host->pushed),
            (unsigned long)host->overtaking);

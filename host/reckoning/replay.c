@@ -3,9 +3,6 @@
 #include "numbers.h"
 #include "spelling.h"
 
-/* The places of an entry's fields. */
-enum { KIND_AT = 0, NAME_LENGTH_AT = 1, PARENT_AT = 2, NAME_AT = 4, LENGTH_AT = 64, DATA_AT = 68 };
-
 static uint8_t *entry(const struct volume *volume, uint64_t object)
 {
     return volume->bytes + object * (DATA_AT + WB_BLOCK_BYTES * volume->b);

@@ -1,13 +1,16 @@
 //! Builds a script line by line and plays each line as it is added, so that the next one can suit the state.
 
 use crate::random::Random;
-use second::geometry::Geometry;
+use second::geometry::{self, Geometry};
 use second::log::Log;
 use second::order::with_predecessors;
 use second::player::{Outcome, Player};
 use second::record::Record;
 use second::script::to_hexadecimal;
 use second::volume::Volume;
+
+/// The bytes of one block, as wide as the offsets and lengths of calls.
+pub const BLOCK: u64 = geometry::BLOCK as u64;
 
 pub struct Builder {
     pub seed: u64,

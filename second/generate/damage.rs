@@ -1,9 +1,12 @@
 //! Damaged buffers, wrong lengths and wrong numbers. Each damage is done by one poke and undone by another.
 
-use crate::builder::{hex, Builder};
+use crate::builder::{hex, Builder, BLOCK};
 use crate::limits;
 use crate::runs;
 use second::geometry::{ENTRY_HEAD, LOG_HEAD, SLOT};
+use second::log::{DEPENDENTS_AT, RECORD_AT};
+use second::names::LONGEST_NAME;
+use second::volume::{LENGTH_AT, NAME_AT, NAME_LENGTH_AT, PARENT_AT};
 
 /// Volumes and logs with one or more bytes changed, at places that matter.
 pub fn damage(builder: &mut Builder) {
@@ -79,16 +82,32 @@ fn spot(builder: &mut Builder) -> (&'static str, usize) {
     if area == "l" {
         let slots = builder.log().map_or(1, |log| log.slots.len().max(1)) as u64;
         let slot = builder.random.below((slots + 1).min(geometry.m as u64)) as usize;
-        let within =
-            builder.random.pick(&[0, 1, 3, 4, 7, 8, 9, 10, 13, 14, 15, 16, 17, 18, 20, 22, 23, 24, 25, 40, SLOT - 1]);
-        let head = builder.random.pick(&[0, 3, 4, 7]);
+        let slot_head = [0, 1, DEPENDENTS_AT - 1, DEPENDENTS_AT, RECORD_AT - 1];
+        let record = [0, 1, 2, 5, 6, 7, 8, 9, 10, 12, 14, 15, 16, 17, 32].map(|at| RECORD_AT + at);
+        let within = builder.random.pick(&[slot_head.as_slice(), &record, &[SLOT - 1]].concat());
+        let head = builder.random.pick(&[0, 3, 4, LOG_HEAD - 1]);
         return (area, builder.random.weighted(&[(1, head), (9, LOG_HEAD + slot * SLOT + within)]));
     }
     let object = builder.random.below(geometry.n as u64) as usize;
     let length = builder.length_of(object as u64) as usize;
     let data = ENTRY_HEAD + length.min(geometry.longest_file() - 1);
-    let name = 4 + builder.view().name(object).len().min(59);
-    let within = builder.random.pick(&[0, 1, 2, 3, 4, 5, name, 63, 64, 65, 66, 67, data, geometry.entry_length() - 1]);
+    let name = NAME_AT + builder.view().name(object).len().min(LONGEST_NAME - 1);
+    let within = builder.random.pick(&[
+        0,
+        NAME_LENGTH_AT,
+        PARENT_AT,
+        PARENT_AT + 1,
+        NAME_AT,
+        NAME_AT + 1,
+        name,
+        LENGTH_AT - 1,
+        LENGTH_AT,
+        LENGTH_AT + 1,
+        LENGTH_AT + 2,
+        LENGTH_AT + 3,
+        data,
+        geometry.entry_length() - 1,
+    ]);
     (area, object * geometry.entry_length() + within)
 }
 
@@ -134,7 +153,7 @@ const WRONG_NUMBERS: [&str; 16] = [
 ];
 
 /// The lengths for n = 6, b = 1 and m = 4.
-const VOLUME: usize = 6 * 1092;
+const VOLUME: usize = 6 * (ENTRY_HEAD + BLOCK as usize);
 const LOG: usize = LOG_HEAD + 4 * SLOT;
 
 /// Lengths that do not fit these.
@@ -220,7 +239,8 @@ fn calls_of_every_kind(builder: &mut Builder) {
         builder.say(line);
     }
     let [n, b, _] = builder.player.given;
-    let fits = n.checked_mul(68 + 1024 * (b % 1000)).is_some_and(|length| length == builder.player.lengths[0] as u64);
+    let entry = ENTRY_HEAD as u64 + BLOCK * (b % 1000);
+    let fits = n.checked_mul(entry).is_some_and(|length| length == builder.player.lengths[0] as u64);
     if !fits {
         builder.say("format");
     }

@@ -1,7 +1,8 @@
 //! Each call's arguments at and around every limit of document 01.
 
-use crate::builder::{hex, Builder};
+use crate::builder::{hex, Builder, BLOCK};
 use crate::runs;
+use second::names::{LONGEST_NAME, LONGEST_PATH};
 
 /// Numbers around the limits of 1, 2, 4 and 8 bytes.
 const WIDE: [u64; 10] =
@@ -92,16 +93,16 @@ fn name(builder: &mut Builder) -> Vec<u8> {
         0 => Vec::new(),
         1 => builder.random.pick(&[b".".to_vec(), b"..".to_vec()]),
         2 => builder.random.pick(&[b"...".to_vec(), b".a".to_vec(), b" ".to_vec(), vec![255], vec![1], vec![46, 0]]),
-        3 => long(60),
-        4 => long(61),
-        5 => [long(60), vec![0]].concat(),
-        6 => [vec![47], long(60)].concat(),
+        3 => long(LONGEST_NAME),
+        4 => long(LONGEST_NAME + 1),
+        5 => [long(LONGEST_NAME), vec![0]].concat(),
+        6 => [vec![47], long(LONGEST_NAME)].concat(),
         7 => builder.random.pick(&[
             b"a/b".to_vec(),
             vec![0],
             b"/".to_vec(),
             b"a\0".to_vec(),
-            long(62),
+            long(LONGEST_NAME + 2),
             long(255),
             long(256),
         ]),
@@ -119,7 +120,7 @@ fn path(builder: &mut Builder) -> Vec<u8> {
         1 => good[1..].to_vec(),
         2 => builder.random.pick(&[b"/".to_vec(), b"//".to_vec(), b"/.".to_vec(), b"/..".to_vec(), b"/\0".to_vec()]),
         3 => {
-            let length = builder.random.pick(&[1022, 1023, 1024, 1025]) as usize;
+            let length = builder.random.pick(&[LONGEST_PATH - 1, LONGEST_PATH, LONGEST_PATH + 1, LONGEST_PATH + 2]);
             b"/a".iter().copied().cycle().take(length).collect()
         }
         4 | 5 => [good, b"/".to_vec(), name(builder)].concat(),
@@ -143,7 +144,7 @@ fn offset(builder: &mut Builder, object: u64) -> u64 {
     let most = builder.geometry().longest_file() as u64;
     let length = builder.length_of(object);
     match builder.random.below(8) {
-        0 => builder.random.pick(&[1023, 1024, 1025, 2047, 2048]),
+        0 => builder.random.pick(&[BLOCK - 1, BLOCK, BLOCK + 1, 2 * BLOCK - 1, 2 * BLOCK]),
         1 => builder.random.pick(&[most - 1, most, most + 1]),
         2 => builder.random.pick(&WIDE),
         3 => builder.random.pick(&[0, 1, length / 2]),
@@ -163,12 +164,12 @@ fn write(builder: &mut Builder, program: u64) -> String {
     let object = object(builder);
     let offset = offset(builder, object);
     let length = builder.length_of(object);
-    let to_length = length.saturating_sub(offset).min(1025);
-    let to_block = 1024 - offset % 1024;
+    let to_length = length.saturating_sub(offset).min(BLOCK + 1);
+    let to_block = BLOCK - offset % BLOCK;
     let long = builder.random.chance(12);
     let short = builder.random.between(0, 4);
     let count = if long {
-        builder.random.pick(&[to_block, to_block + 1, to_block - 1, 1024, 1025, to_length, to_length + 1])
+        builder.random.pick(&[to_block, to_block + 1, to_block - 1, BLOCK, BLOCK + 1, to_length, to_length + 1])
     } else {
         builder.random.pick(&[short, to_length.min(40), (to_length + 1).min(41), to_length.saturating_sub(1).min(39)])
     };

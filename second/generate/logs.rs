@@ -5,7 +5,7 @@ use crate::builder::{hex, Builder};
 use crate::records::valid;
 use crate::runs;
 use second::apply::{applies, apply};
-use second::geometry::{LOG_HEAD, SLOT};
+use second::geometry::{ENTRY_HEAD, LOG_HEAD, SLOT};
 use second::log::{Log, Slot, State};
 use second::record::Record;
 use second::volume::{Volume, FILE, LENGTH_AT};
@@ -55,7 +55,8 @@ fn turned(builder: &mut Builder) {
     builder.say(&format!("{} 1 {parent} {}", if file { "rmfile" } else { "rmdir" }, hex(&name)));
     builder.say(&format!("poke s {} {}", object * entry, if file { "=02" } else { "=01" }));
     if length > 0 {
-        builder.say(&format!("poke s {} {}", object * entry + LENGTH_AT, hex(&vec![0; 4 + length])));
+        let zeros = vec![0; ENTRY_HEAD - LENGTH_AT + length];
+        builder.say(&format!("poke s {} {}", object * entry + LENGTH_AT, hex(&zeros)));
     }
     if file && !free.is_empty() && builder.random.chance(30) {
         let child = builder.random.pick(&free) as usize;

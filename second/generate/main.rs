@@ -2,17 +2,17 @@
 //! The kinds are listed in [`KINDS`]; `cases/seeds` says which of them are stored.
 #![forbid(unsafe_code)]
 
+mod across;
 mod bad;
 mod builder;
 mod damage;
-mod ends;
-mod letters;
 mod limits;
 mod logs;
 mod pairs;
 mod random;
 mod records;
 mod runs;
+mod spelling;
 
 use builder::Builder;
 use std::io::Write;
@@ -25,8 +25,8 @@ const KINDS: [(&str, Maker); 12] = [
     ("run", runs::run),
     ("fill", runs::fill),
     ("files", runs::files),
-    ("ends", ends::ends),
-    ("letters", letters::letters),
+    ("across", across::across),
+    ("spelling", spelling::spelling),
     ("limits", limits::limits),
     ("damage", damage::damage),
     ("sizes", damage::sizes),

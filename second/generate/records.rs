@@ -1,7 +1,8 @@
 //! Records for the reader: good ones alone and in a row, truncated ones, and corrupted ones.
 
-use crate::builder::{hex, Builder};
+use crate::builder::{hex, Builder, BLOCK};
 use crate::random::Random;
+use second::names::LONGEST_NAME;
 use second::record::{Kind, Record};
 
 /// A valid record that fits n objects and files of that length.
@@ -23,9 +24,9 @@ pub fn valid(random: &mut Random, n: u64, longest: u64) -> Record {
             record.displaced = (displaced != object && random.chance(50)).then_some(displaced);
         }
         Kind::Overwrite | Kind::Append => {
-            let block = random.below(longest / 1024) * 1024;
-            let within = random.pick(&[0, 0, 1, 2, 4, 1000, 1023]);
-            let count = random.between(1, 5).min(1024 - within);
+            let block = random.below(longest / BLOCK) * BLOCK;
+            let within = random.pick(&[0, 0, 1, 2, 4, 1000, BLOCK - 1]);
+            let count = random.between(1, 5).min(BLOCK - within);
             record.offset = (block + within) as u32;
             record.data = (0..count).map(|at| at as u8 + 65).collect();
         }
@@ -42,7 +43,7 @@ fn place(random: &mut Random, n: u64, record: &mut Record) {
 }
 
 fn name(random: &mut Random) -> Vec<u8> {
-    random.weighted(&[(8, b"a".to_vec()), (8, b"b".to_vec()), (4, b"task".to_vec()), (1, vec![b'n'; 60])])
+    random.weighted(&[(8, b"a".to_vec()), (8, b"b".to_vec()), (4, b"task".to_vec()), (1, vec![b'n'; LONGEST_NAME])])
 }
 
 /// 1 to 8 different objects.
@@ -101,11 +102,20 @@ fn corrupt(builder: &mut Builder, bytes: &[u8]) {
 /// Data and offsets at the ends of blocks and of the longest file.
 fn edges(builder: &mut Builder) {
     builder.comment("Writes at the ends of blocks and of the longest file.");
-    let cases =
-        [(0, 1024), (0, 1025), (1, 1024), (1023, 1), (1023, 2), (64_512, 1024), (65_535, 1), (65_535, 2), (65_536, 1)];
+    let cases = [
+        (0, BLOCK),
+        (0, BLOCK + 1),
+        (1, BLOCK),
+        (BLOCK - 1, 1),
+        (BLOCK - 1, 2),
+        (65_536 - BLOCK, BLOCK),
+        (65_535, 1),
+        (65_535, 2),
+        (65_536, 1),
+    ];
     for (offset, count) in cases {
         for kind in [Kind::Overwrite, Kind::Append] {
-            let data = vec![7; count];
+            let (offset, data) = (offset as u32, vec![7; count as usize]);
             let record = Record { sequence: 5, object: 9, offset, data, ..Record::blank(kind) };
             builder.say(&format!("record 0 {}", hex(&record.to_bytes())));
         }

@@ -1,7 +1,8 @@
 //! Long useful runs: logs that fill up, many operations waiting, pushes in random order, cuts, takes, renews
 //! and remounts.
 
-use crate::builder::{hex, Builder};
+use crate::builder::{hex, Builder, BLOCK};
+use second::geometry::LONGEST_RECORD;
 
 /// How a run is steered: the weights of what it does, and how many takes it may make (each is long).
 pub struct Style {
@@ -68,7 +69,8 @@ pub fn files(builder: &mut Builder) {
     let (n, b, m) = builder.random.pick(&[(4, 2, 18), (3, 1, 12), (5, 2, 24)]);
     builder.comment(&format!("Writes that meet or just do not, with n = {n}, b = {b}, m = {m}."));
     builder.begin(n, b, m);
-    for line in ["create 0 0 =61 1", "create 0 0 =62 2", "setlen 0 1 1024", "setlen 0 2 12", "mount"] {
+    let one_block = format!("setlen 0 1 {BLOCK}");
+    for line in ["create 0 0 =61 1", "create 0 0 =62 2", &one_block, "setlen 0 2 12", "mount"] {
         builder.say(line);
         send_all(builder);
     }
@@ -79,7 +81,7 @@ pub fn files(builder: &mut Builder) {
         let line = match builder.random.weighted(&[(60, 0), (8, 1), (4, 2), (4, 3), (35, 4), (4, 5)]) {
             0 => overlap(builder, program, file, length),
             1 => format!("write {program} {file} {length} {}", hex(&[round as u8; 3])),
-            2 => format!("setlen {program} {file} {}", builder.random.pick(&[length, 12, 1024])),
+            2 => format!("setlen {program} {file} {}", builder.random.pick(&[length, 12, BLOCK])),
             3 => format!("forder {program} {}", builder.random.pick(&["=01000200", "=0100", "=0000"])),
             4 => {
                 push(builder);
@@ -269,7 +271,7 @@ fn write(builder: &mut Builder, program: u64) -> String {
         0 => builder.random.between(1, room),
         3 => builder.random.between(1, 6),
         1 => builder.random.pick(&[0, 100, 300]),
-        _ => builder.random.pick(&[512, 1023, 1024, 1025]),
+        _ => builder.random.pick(&[BLOCK / 2, BLOCK - 1, BLOCK, BLOCK + 1]),
     };
     let start = builder.random.below(256) as u8;
     let data: Vec<u8> = (0..count as usize).map(|at| start.wrapping_add(at as u8)).collect();
@@ -343,7 +345,7 @@ pub fn lose(builder: &mut Builder, takes: &mut usize, programs: u64) {
         (true, _) => {
             *takes -= 1;
             let program = builder.random.pick(&lost);
-            builder.call(&format!("take {program} {}", hex(&[0xee; 1040])));
+            builder.call(&format!("take {program} {}", hex(&[0xee; LONGEST_RECORD])));
             builder.call(&format!("take {program} {}", hex(&[0xee; 30])));
             builder.call(&format!("renew {program}"));
         }

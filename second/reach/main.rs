@@ -5,21 +5,21 @@
 
 mod across;
 mod calls;
-mod letters;
 mod name_bytes;
 mod pairs;
 mod removal;
 mod sends;
+mod spelling;
 
 use across::Across;
 use calls::Calls;
-use letters::Letters;
 use name_bytes::NameBytes;
 use pairs::Pairs;
 use removal::Removal;
 use second::player::{Outcome, Player};
 use second::script::{lines, parse, Line};
 use sends::Sends;
+use spelling::Spelling;
 use std::io::Write;
 
 /// All that is measured over the scripts.
@@ -29,7 +29,7 @@ struct Reach {
     pairs: Pairs,
     sends: Sends,
     across: Across,
-    letters: Letters,
+    spelling: Spelling,
     name_bytes: NameBytes,
     removal: Removal,
     lines: usize,
@@ -73,7 +73,7 @@ impl Reach {
         let Some(code) = code.parse().ok().filter(|_| calls::possible(name).is_some()) else { return };
         let damaged = before.lend().look().damaged();
         self.calls.note(name, code, damaged);
-        self.letters.note(name, arguments, code, &before);
+        self.spelling.note(name, arguments, code, &before);
         self.name_bytes.note(name, arguments, code, &before);
         let old = sends::log_of(&mut before);
         let new = sends::log_of(after);
@@ -82,7 +82,7 @@ impl Reach {
             self.sends.note(name, arguments, code, damaged, &old);
             self.across.note(name, arguments, code, &mut before, (&old, &new));
             if !damaged {
-                self.letters.note_sends(name, arguments, code, &before, (&old, &new));
+                self.spelling.note_sends(name, arguments, code, &before, (&old, &new));
                 self.removal.note(name, arguments, code, &before, (&old, &new));
             }
         }
@@ -96,7 +96,7 @@ impl Reach {
         missing.extend(self.pairs.missing());
         missing.extend(self.sends.missing());
         missing.extend(self.across.missing());
-        missing.extend(self.letters.missing());
+        missing.extend(self.spelling.missing());
         missing.extend(self.name_bytes.missing());
         missing.extend(self.removal.missing());
         if self.bad_lines == 0 {
@@ -116,7 +116,7 @@ fn main() -> std::io::Result<()> {
     let mut text =
         format!("{} scripts, {} lines, {} ending in a bad line\n", files.len(), reach.lines, reach.bad_lines);
     text += &(reach.calls.table() + &reach.pairs.table() + &reach.sends.table() + &reach.across.table());
-    text += &(reach.letters.table() + &reach.name_bytes.table() + &reach.removal.table());
+    text += &(reach.spelling.table() + &reach.name_bytes.table() + &reach.removal.table());
     missing.iter().for_each(|what| text += &format!("missing: {what}\n"));
     if missing.is_empty() {
         text += "nothing is missing\n";

@@ -1,11 +1,11 @@
 //! The bytes of names (document 02, K3): which values stood in the names and paths that calls were given, and in
 //! stored names.
 
-use crate::letters::volumes;
-use second::names::{bad_name, bad_path, components};
+use crate::spelling::volumes;
+use second::names::{bad_name, bad_path, components, LONGEST_NAME};
 use second::player::Player;
 use second::script::Argument;
-use second::volume::Volume;
+use second::volume::{Volume, NAME_LENGTH_AT};
 use std::collections::BTreeSet;
 
 /// A situation, and the values that must occur in it.
@@ -112,6 +112,7 @@ fn at_fault(texts: &[&[u8]], byte: u8) -> bool {
 
 /// The bytes of all names in a volume.
 fn stored(volume: &Volume<&[u8]>) -> Vec<u8> {
-    let named = |object: &usize| !volume.is_free(*object) && volume.entry(*object)[1] <= 60;
+    let named =
+        |&object: &usize| !volume.is_free(object) && volume.entry(object)[NAME_LENGTH_AT] as usize <= LONGEST_NAME;
     (1..volume.geometry.n).filter(named).flat_map(|object| volume.name(object).to_vec()).collect()
 }

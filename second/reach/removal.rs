@@ -1,7 +1,7 @@
 //! Remove file and remove directory (document 02, K4): each on objects of both kinds, and what became of the operations
 //! of kind 3, by the call that issued them.
 
-use crate::letters::volumes;
+use crate::spelling::volumes;
 use second::log::{Log, Slot, State};
 use second::order::with_predecessors;
 use second::player::Player;
@@ -18,14 +18,14 @@ const WANTED: [&str; 32] = [
     "rmfile, an empty directory: 9",
     "rmfile, a directory with children: 9",
     "rmdir, a directory with children: 11",
-    "rmfile, a wrong choice with a full log: 9",
-    "rmdir, a wrong choice with a full log: 9",
-    "rmfile, a wrong choice with no number left: 9",
-    "rmdir, a wrong choice with no number left: 9",
-    "rmfile, a wrong choice by another spelling: 9",
-    "rmdir, a wrong choice by another spelling: 9",
-    "rmfile, a wrong choice that could have brought dependence: 9",
-    "rmdir, a wrong choice that could have brought dependence: 9",
+    "rmfile, a wrong removal with a full log: 9",
+    "rmdir, a wrong removal with a full log: 9",
+    "rmfile, a wrong removal with no number left: 9",
+    "rmdir, a wrong removal with no number left: 9",
+    "rmfile, a wrong removal by another spelling: 9",
+    "rmdir, a wrong removal by another spelling: 9",
+    "rmfile, a wrong removal that could have brought dependence: 9",
+    "rmdir, a wrong removal that could have brought dependence: 9",
     "rmfile, a file that the server has as a directory: 0",
     "rmdir, a directory that the server has as a file: 0",
     "of rmfile: pushed",
@@ -72,7 +72,7 @@ impl Removal {
                 if let Some(object) = found {
                     self.note_answer(name, code, (&server, &view, object), typed);
                     if code == 9 {
-                        self.note_wrong_choice(name, *program, before, old, (&view, object, typed));
+                        self.note_wrong_removal(name, *program, before, old, (&view, object, typed));
                     }
                 }
             }
@@ -115,8 +115,8 @@ impl Removal {
         }
     }
 
-    /// Notes a refused wrong choice where another refusal could have come first, or dependence have followed.
-    fn note_wrong_choice(
+    /// Notes a refused wrong removal where another refusal could have come first, or dependence have followed.
+    fn note_wrong_removal(
         &mut self,
         name: &str,
         program: u64,
@@ -124,7 +124,7 @@ impl Removal {
         old: &Log,
         (view, object, typed): (&Volume<&[u8]>, usize, &[u8]),
     ) {
-        let wrong = format!("{name}, a wrong choice");
+        let wrong = format!("{name}, a wrong removal");
         self.add_if(old.slots.len() as u64 == before.given[2], &format!("{wrong} with a full log: 9"));
         self.add_if(old.numbers_left() == 0, &format!("{wrong} with no number left: 9"));
         self.add_if(view.name(object) != typed, &format!("{wrong} by another spelling: 9"));

@@ -4,9 +4,11 @@
 //! see [`session`] (format, mount), [`questions`], [`changes`], [`sends`] and [`losses`].
 //!
 //! ```
-//! use second::Lent;
+//! use second::{geometry::Geometry, Lent};
 //! let (n, b, m) = (4, 1, 4);
-//! let (mut server, mut view, mut log) = (vec![0; 4 * 1092], vec![0; 4 * 1092], vec![0; 8 + 4 * 1048]);
+//! let lengths = Geometry::new(n, b, m).ok_or(second::Refusal::WrongBuffer)?;
+//! let (mut server, mut view) = (vec![0; lengths.volume_length()], vec![0; lengths.volume_length()]);
+//! let mut log = vec![0; lengths.log_length()];
 //! second::format(n, b, m, &mut server)?;
 //! let mut lent = Lent { n, b, m, server: &mut server, view: &mut view, log: &mut log };
 //! second::mount(&mut lent)?;

@@ -12,8 +12,8 @@ pub const SPENT: u32 = 4_294_967_295;
 const STATE_WAITING: u8 = 1;
 const STATE_LOST: u8 = 2;
 /// Where the dependents and the record begin in a slot.
-const DEPENDENTS_AT: usize = 4;
-const RECORD_AT: usize = 8;
+pub const DEPENDENTS_AT: usize = 4;
+pub const RECORD_AT: usize = 8;
 
 #[derive(Clone, Copy, PartialEq, Eq, Debug)]
 pub enum State {

@@ -14,12 +14,12 @@ const fn permitted() -> [bool; 256] {
     marks
 }
 
-/// Whether a name's text is bad in any way other than its length over 60 (refusal 5).
+/// Whether a name's text is bad in any way other than being too long (refusal 5).
 pub fn bad_name(name: &[u8]) -> bool {
     name.is_empty() || name == b"." || name == b".." || name.iter().any(|&byte| !PERMITTED[byte as usize])
 }
 
-/// Whether a name is over 60 bytes (refusal 6).
+/// Whether a name is too long (refusal 6).
 pub fn long_name(name: &[u8]) -> bool {
     name.len() > LONGEST_NAME
 }

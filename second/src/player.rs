@@ -1,5 +1,6 @@
 //! Plays a call script against three areas and prints the answers (the script format's "The buffers" and "The calls").
 
+use crate::geometry::{BLOCK, ENTRY_HEAD, LOG_HEAD, SLOT};
 use crate::refusal::Refusal;
 use crate::script::{lines, parse, to_hexadecimal, Argument, Line};
 use crate::sends::Fsync;
@@ -91,8 +92,9 @@ impl Player {
     /// Reckons in 128 bits; a product that does not fit there is over the area's length too.
     fn fit(&mut self) -> Outcome {
         let [n, b, m] = self.given.map(u128::from);
-        let volume = n.saturating_mul(68 + 1024 * b);
-        self.size([volume, volume, 8 + m * 1048])
+        let [entry_head, block, log_head, slot] = [ENTRY_HEAD, BLOCK, LOG_HEAD, SLOT].map(|bytes| bytes as u128);
+        let volume = n.saturating_mul(entry_head + block * b);
+        self.size([volume, volume, log_head + m * slot])
     }
 
     fn poke(&mut self, area: usize, at: u64, bytes: &[u8]) -> Outcome {

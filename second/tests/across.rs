@@ -3,16 +3,19 @@
 
 mod common;
 use common::{forder_record, lost, waiting, World};
+use second::bytes::get_u32;
+use second::geometry::{BLOCK, ENTRY_HEAD, LONGEST_RECORD};
 use second::log::Log;
 use second::record::{Kind, Record};
+use second::volume::LENGTH_AT;
 
 /// n = 4, b blocks, m slots, and a sent file 1 f of that length, filled with x.
 fn with_file(b: u64, m: u64, length: u64) -> World {
     let mut world = World::new(4, b, m);
     world.create(0, 0, b"f", 1).unwrap();
     world.push_all();
-    for start in (0..length).step_by(1024) {
-        world.write(0, 1, start, &vec![b'x'; (length - start).min(1024) as usize]).unwrap();
+    for start in (0..length).step_by(BLOCK) {
+        world.write(0, 1, start, &vec![b'x'; BLOCK.min((length - start) as usize)]).unwrap();
         world.push_all();
     }
     world.mount().unwrap();
@@ -25,9 +28,8 @@ fn data(sequence: u32, program: u8, kind: Kind, offset: u32, data: &[u8]) -> Rec
 
 /// The content of file 1 in the view or in the server volume.
 fn content(world: &World, volume: &[u8]) -> Vec<u8> {
-    let at = world.entry_at(1);
-    let length = u32::from_le_bytes(volume[at + 64..at + 68].try_into().unwrap());
-    volume[at + 68..at + 68 + length as usize].to_vec()
+    let entry = &volume[world.entry_at(1)..];
+    entry[ENTRY_HEAD..][..get_u32(entry, LENGTH_AT) as usize].to_vec()
 }
 
 /// The call is refused with that number and changes nothing.
@@ -91,12 +93,12 @@ fn up_to_the_length_and_at_the_length_one_operation() {
 }
 
 #[test]
-fn refusal_12_keeps_its_other_cases() {
+fn refusal_12_of_other_ranges() {
     let mut world = with_file(2, 4, 1024);
     refused(&mut world, 1020, b"abcde", 12);
     refused(&mut world, 1023, b"ab", 12);
     refused(&mut world, 0, &[1; 1025], 12);
-    assert_eq!(world.write(2, 1, 1020, b"abcd"), Ok(1), "C8 stays");
+    assert_eq!(world.write(2, 1, 1020, b"abcd"), Ok(1), "C8");
     let mut world = with_file(2, 4, 1020);
     refused(&mut world, 1018, b"abcdefg", 12);
     refused(&mut world, 1018, b"", 12);
@@ -110,9 +112,9 @@ fn refusal_12_keeps_its_other_cases() {
 }
 
 #[test]
-fn beyond_b_stays_refused() {
+fn beyond_b_is_refused() {
     for b in [1, 2, 64] {
-        let most = 1024 * b;
+        let most = BLOCK as u64 * b;
         let mut world = with_file(b, 4, most - 4);
         refused(&mut world, most - 6, b"abcdefg", 12);
         assert_eq!(world.write(2, 1, most - 6, b"abcdef"), Ok(1), "to the end of b");
@@ -147,7 +149,7 @@ fn lost_slots_count_and_one_slot_is_never_enough() {
     let slots = [20, 21, 22].map(|number| lost(forder_record(number, 7, &[0]))).to_vec();
     world.set_log(&Log { next: 30, marks: 0, slots });
     refused(&mut world, 14, b"ab", 13);
-    world.take(7, &mut [0; 1040]).unwrap();
+    world.take(7, &mut [0; LONGEST_RECORD]).unwrap();
     assert_eq!(world.write(2, 1, 14, b"ab"), Ok(30));
     refused(&mut with_file(1, 1, 15), 14, b"ab", 13);
 }
@@ -242,7 +244,7 @@ fn a_cut_may_keep_the_overwrite_without_the_append() {
     assert_eq!(world.log_now().slots, [lost(data(2, 2, Kind::Append, 15, b"56789"))]);
     assert_eq!(world.log_now().marks, 1 << 2);
     assert_eq!(world.stat(2, 1), Err(4));
-    let mut buffer = [7; 1040];
+    let mut buffer = [7; LONGEST_RECORD];
     assert_eq!(world.take(2, &mut buffer), Ok(21));
     assert_eq!(buffer[..21], data(2, 2, Kind::Append, 15, b"56789").to_bytes());
     assert_eq!(world.renew(2), Ok(0));
@@ -256,7 +258,7 @@ fn both_lost_are_two_losses_of_the_caller() {
     world.cut().unwrap();
     assert_eq!(content(&world, &world.view), [b'x'; 15]);
     assert_eq!(world.log_now().marks, 1 << 2);
-    let mut buffer = [7; 1040];
+    let mut buffer = [7; LONGEST_RECORD];
     for record in [data(1, 2, Kind::Overwrite, 10, b"01234"), data(2, 2, Kind::Append, 15, b"56789")] {
         assert_eq!(world.renew(2), Err(18));
         assert_eq!(world.take(2, &mut buffer), Ok(21));

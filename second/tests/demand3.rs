@@ -6,6 +6,7 @@ mod common;
 mod model;
 use common::{Random, World};
 use model::{Event, Fate, Register, Tree, What};
+use second::geometry::{self, LONGEST_RECORD};
 use std::collections::BTreeSet;
 
 /// A random run: the buffers, the register that follows them, and what has been seen.
@@ -22,6 +23,7 @@ struct Run {
 /// Some are two spellings of one name, some only look so.
 const NAMES: [&[u8]; 8] = [b"a", b"b", b"B", b"c", b"A longer name", b"a longer namE", b"@", b"`"];
 const PROGRAMS: u64 = 4;
+const BLOCK: u64 = geometry::BLOCK as u64;
 
 impl Run {
     fn new(seed: u64) -> Run {
@@ -240,7 +242,7 @@ impl Run {
         let offset = if self.random.chance(40) { length } else { self.random.below(length + 2) };
         let across = self.random.chance(30);
         let room = if offset < length && !across { (length - offset).min(6) } else { 6 };
-        let most = if self.random.chance(10) { 1024 } else { room };
+        let most = if self.random.chance(10) { BLOCK } else { room };
         let count = 1 + self.random.below(most);
         let start = self.random.below(256) as u8;
         let count = if self.random.chance(3) { 0 } else { count };
@@ -276,7 +278,7 @@ impl Run {
             return Err(9);
         }
         let (length, end) = (node.data.len() as u64, offset + count);
-        if count == 0 || offset > length || offset / 1024 != (end - 1) / 1024 || end > 1024 * self.world.b {
+        if count == 0 || offset > length || offset / BLOCK != (end - 1) / BLOCK || end > BLOCK * self.world.b {
             return Err(12);
         }
         let operations = if offset < length && length < end { 2 } else { 1 };
@@ -288,7 +290,7 @@ impl Run {
 
     fn set_length(&mut self) -> bool {
         let (program, object) = (self.program(), self.of_kind(false));
-        let limit = if self.random.chance(70) { 12 } else { 1024 * self.world.b + 2 };
+        let limit = if self.random.chance(70) { 12 } else { BLOCK * self.world.b + 2 };
         let length = self.random.below(limit);
         let answer = self.world.setlen(program, object, length);
         self.changed("setlen", answer, program, |_| What::SetLength { object: object as u16, length: length as usize })
@@ -445,7 +447,7 @@ impl Run {
             self.accepted.insert("renew");
             return true;
         }
-        let mut buffer = [238; 1040];
+        let mut buffer = [238; LONGEST_RECORD];
         let answer = self.world.take(program, &mut buffer);
         let Some(operation) = first else {
             assert_eq!(answer, Err(16));

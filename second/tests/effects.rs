@@ -3,6 +3,7 @@
 
 mod common;
 use common::{forder_record, lost, set_length_record, waiting, World};
+use second::geometry::{ENTRY_HEAD, LONGEST_RECORD};
 use second::log::{Log, Slot};
 use second::record::{Kind, Record};
 
@@ -152,7 +153,8 @@ fn a_cut_marks_the_stored_dependents_and_keeps_older_losses() {
 #[test]
 fn a_cut_with_nothing_waiting_copies_the_server() {
     let mut world = base();
-    world.view[1092 + 68] = 5;
+    let data = world.entry_at(1) + ENTRY_HEAD;
+    world.view[data] = 5;
     assert_eq!(world.cut(), Ok(0));
     assert_eq!(world.view, world.server);
 }
@@ -169,7 +171,7 @@ fn lost_operations_neither_precede_nor_are_needed() {
 fn take_gives_the_earliest_loss_of_the_program() {
     let records = [forder_record(10, 1, &[0]), forder_record(11, 2, &[1]), forder_record(12, 1, &[2])];
     let mut world = with_slots(records.iter().cloned().map(lost).collect());
-    let mut buffer = [7; 1040];
+    let mut buffer = [7; LONGEST_RECORD];
     assert_eq!(world.take(1, &mut buffer), Ok(11));
     assert_eq!(&buffer[..11], &records[0].to_bytes());
     assert!(buffer[11..].iter().all(|&byte| byte == 7));

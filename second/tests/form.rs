@@ -1,15 +1,19 @@
 //! The stored form of volumes and logs, rule by rule (document 01, "Geometry and stored form").
 
 mod common;
-use common::{forder_record, lost, set_length_record, waiting, World};
-use second::log::{Log, Slot};
+use common::{entry_length, forder_record, log_length, lost, set_length_record, waiting, World};
+use second::bytes::put_u32;
+use second::geometry::{Geometry, BLOCK, ENTRY_HEAD, LOG_HEAD, LONGEST_RECORD, SLOT};
+use second::log::{Log, Slot, DEPENDENTS_AT, RECORD_AT};
+use second::names::LONGEST_NAME;
 use second::record::{Kind, Record};
+use second::volume::{LENGTH_AT, NAME_AT, NAME_LENGTH_AT, PARENT_AT};
 
 /// A change of stored bytes.
 type Change = fn(&mut Vec<u8>);
 
 /// The length of an entry with b = 1.
-const E: usize = 1092;
+const E: usize = entry_length(1);
 
 /// n = 6, b = 1, m = 3. Sent: 1 file f of 10 bytes, 2 directory d, 3 directory e in d, 4 file f in d.
 fn base() -> World {
@@ -21,8 +25,21 @@ fn base() -> World {
     world.create(0, 2, b"f", 4).unwrap();
     world.push_all();
     world.m = 3;
-    world.log.truncate(8 + 3 * 1048);
+    world.log.truncate(log_length(3));
     world
+}
+
+/// The numbers of document 01, which the other tests call by their names.
+#[test]
+fn the_layout_in_numbers() {
+    assert_eq!([NAME_LENGTH_AT, PARENT_AT, NAME_AT, LENGTH_AT, ENTRY_HEAD], [1, 2, 4, 64, 68]);
+    assert_eq!([LOG_HEAD, DEPENDENTS_AT, RECORD_AT, SLOT], [8, 4, 8, 1048]);
+    assert_eq!([LONGEST_NAME, BLOCK, LONGEST_RECORD], [60, 1024, 1040]);
+    for (n, b, m, volume, log) in [(2, 1, 1, 2184, 1056), (4, 1, 4, 4368, 4200), (256, 64, 1024, 16_794_624, 1_073_160)]
+    {
+        let geometry = Geometry::new(n, b, m).unwrap();
+        assert_eq!((geometry.volume_length(), geometry.log_length()), (volume, log));
+    }
 }
 
 /// Makes the same change to server volume and view, one at a time, and gives mount's answer and stat's two.
@@ -35,45 +52,54 @@ fn with_changed_volume(change: impl Fn(&mut Vec<u8>)) -> (Result<u64, u64>, Vec<
     (server_changed.mount(), stats.iter().map(|answer| *answer != Err(2)).collect())
 }
 
+/// Gives entry 1, whose name has one byte, another name.
+fn put_name(volume: &mut [u8], name: &[u8]) {
+    volume[E + NAME_LENGTH_AT] = name.len() as u8;
+    volume[E + NAME_AT..][..name.len()].copy_from_slice(name);
+}
+
 #[test]
 fn every_rule_of_a_volume() {
     let broken: Vec<(&str, Change)> = vec![
         ("root free", |v| v[0] = 0),
         ("root a file", |v| v[0] = 1),
-        ("root with a name length", |v| v[1] = 1),
-        ("root with a name", |v| (v[1], v[4]) = (1, b'r')),
-        ("root with parent 2", |v| v[2] = 2),
-        ("root with a name byte", |v| v[63] = 1),
-        ("root with a length", |v| v[64] = 1),
-        ("root with data", |v| v[68] = 1),
+        ("root with a name length", |v| v[NAME_LENGTH_AT] = 1),
+        ("root with a name", |v| (v[NAME_LENGTH_AT], v[NAME_AT]) = (1, b'r')),
+        ("root with parent 2", |v| v[PARENT_AT] = 2),
+        ("root with a name byte", |v| v[LENGTH_AT - 1] = 1),
+        ("root with a length", |v| v[LENGTH_AT] = 1),
+        ("root with data", |v| v[ENTRY_HEAD] = 1),
         ("root with data at its end", |v| v[E - 1] = 1),
         ("kind 3", |v| v[E] = 3),
         ("kind 255", |v| v[E] = 255),
-        ("free with a name length", |v| v[5 * E + 1] = 1),
+        ("free with a name length", |v| v[5 * E + NAME_LENGTH_AT] = 1),
         ("free with its last byte", |v| v[6 * E - 1] = 1),
-        ("empty name", |v| (v[E + 1], v[E + 4]) = (0, 0)),
-        ("name length 61", |v| v[E + 1..E + 66].fill(61)),
-        ("name length 255", |v| v[E + 1] = 255),
-        ("name with 0", |v| v[E + 1] = 2),
-        ("name with a slash", |v| v[E + 4] = b'/'),
-        ("name .", |v| v[E + 4] = b'.'),
-        ("name ..", |v| (v[E + 1], v[E + 4], v[E + 5]) = (2, b'.', b'.')),
-        ("byte past the name", |v| v[E + 5] = 1),
-        ("last byte past the name", |v| v[E + 63] = 1),
-        ("parent free", |v| v[E + 2] = 5),
-        ("parent a file", |v| v[3 * E + 2] = 1),
-        ("parent n", |v| v[E + 2] = 6),
-        ("parent 256", |v| v[E + 3] = 1),
-        ("its own parent", |v| v[2 * E + 2] = 2),
-        ("a circle of two", |v| v[2 * E + 2] = 3),
-        ("same parent and name", |v| v[4 * E + 2] = 0),
-        ("same parent and name, spelt in another way", |v| (v[4 * E + 2], v[4 * E + 4]) = (0, v[4 * E + 4] ^ 32)),
-        ("directory with a length", |v| v[2 * E + 64] = 1),
-        ("directory with data", |v| v[2 * E + 68] = 1),
+        ("empty name", |v| (v[E + NAME_LENGTH_AT], v[E + NAME_AT]) = (0, 0)),
+        ("name length 61", |v| v[E + NAME_LENGTH_AT..E + LENGTH_AT + 2].fill(61)),
+        ("name length 255", |v| v[E + NAME_LENGTH_AT] = 255),
+        ("name with 0", |v| v[E + NAME_LENGTH_AT] = 2),
+        ("name with a slash", |v| v[E + NAME_AT] = b'/'),
+        ("name .", |v| v[E + NAME_AT] = b'.'),
+        ("name ..", |v| put_name(v, b"..")),
+        ("byte past the name", |v| v[E + NAME_AT + 1] = 1),
+        ("last byte past the name", |v| v[E + LENGTH_AT - 1] = 1),
+        ("parent free", |v| v[E + PARENT_AT] = 5),
+        ("parent a file", |v| v[3 * E + PARENT_AT] = 1),
+        ("parent n", |v| v[E + PARENT_AT] = 6),
+        ("parent 256", |v| v[E + PARENT_AT + 1] = 1),
+        ("its own parent", |v| v[2 * E + PARENT_AT] = 2),
+        ("a circle of two", |v| v[2 * E + PARENT_AT] = 3),
+        ("same parent and name", |v| v[4 * E + PARENT_AT] = 0),
+        ("same parent and name, spelt in another way", |v| {
+            v[4 * E + PARENT_AT] = 0;
+            v[4 * E + NAME_AT] ^= 32;
+        }),
+        ("directory with a length", |v| v[2 * E + LENGTH_AT] = 1),
+        ("directory with data", |v| v[2 * E + ENTRY_HEAD] = 1),
         ("directory with data at its end", |v| v[3 * E - 1] = 1),
-        ("length over b blocks", |v| v[E + 64..E + 68].copy_from_slice(&1025u32.to_le_bytes())),
-        ("length of four bytes", |v| v[E + 67] = 1),
-        ("data past the length", |v| v[E + 68 + 10] = 1),
+        ("length over b blocks", |v| put_u32(v, E + LENGTH_AT, 1025)),
+        ("length of four bytes", |v| v[E + ENTRY_HEAD - 1] = 1),
+        ("data past the length", |v| v[E + ENTRY_HEAD + 10] = 1),
         ("last data byte", |v| v[2 * E - 1] = 1),
     ];
     for (rule, change) in broken {
@@ -84,18 +110,18 @@ fn every_rule_of_a_volume() {
 #[test]
 fn a_volume_at_its_limits_is_good() {
     let good: Vec<(&str, Change)> = vec![
-        ("name of 60 bytes", |v| {
-            v[E + 1] = 60;
-            v[E + 4..E + 64].fill(255);
-        }),
-        ("name ...", |v| (v[E + 1], v[E + 4], v[E + 5], v[E + 6]) = (3, b'.', b'.', b'.')),
+        ("name of 60 bytes", |v| put_name(v, &[255; 60])),
+        ("name ...", |v| put_name(v, b"...")),
         ("full length with data", |v| {
-            v[E + 64..E + 68].copy_from_slice(&1024u32.to_le_bytes());
-            v[E + 68..2 * E].fill(255);
+            put_u32(v, E + LENGTH_AT, 1024);
+            v[E + ENTRY_HEAD..2 * E].fill(255);
         }),
-        ("last byte inside the length", |v| v[E + 68 + 9] = 255),
-        ("same name in another parent", |v| v[4 * E + 2] = 3),
-        ("same parent, name with the highest bit", |v| (v[4 * E + 2], v[4 * E + 4]) = (0, v[4 * E + 4] | 128)),
+        ("last byte inside the length", |v| v[E + ENTRY_HEAD + 9] = 255),
+        ("same name in another parent", |v| v[4 * E + PARENT_AT] = 3),
+        ("same parent, name with the highest bit", |v| {
+            v[4 * E + PARENT_AT] = 0;
+            v[4 * E + NAME_AT] |= 128;
+        }),
     ];
     for (what, change) in good {
         assert_eq!(with_changed_volume(change), (Ok(0), vec![true, true]), "{what}");
@@ -119,11 +145,15 @@ fn stored() -> Vec<u8> {
     bytes_of(6, vec![lost(forder_record(2, 1, &[3, 0])), waiting(set_length_record(5, 31, 1, 1024))])
 }
 
+/// Where the three slots begin, and the records in the first two.
+const FIRST: usize = LOG_HEAD;
+const SECOND: usize = FIRST + SLOT;
+const THIRD: usize = SECOND + SLOT;
+const FIRST_RECORD: usize = FIRST + RECORD_AT;
+const SECOND_RECORD: usize = SECOND + RECORD_AT;
+
 #[test]
 fn every_rule_of_a_log() {
-    const FIRST: usize = 8;
-    const SECOND: usize = 8 + 1048;
-    const THIRD: usize = 8 + 2 * 1048;
     assert!(log_is_good(&stored()));
     let broken: Vec<(&str, Change)> = vec![
         ("next number 0", |l| l[..4].fill(0)),
@@ -131,9 +161,9 @@ fn every_rule_of_a_log() {
         ("state 3", |l| l[FIRST] = 3),
         ("state 0 in a used slot", |l| l[SECOND] = 0),
         ("first zero byte", |l| l[FIRST + 1] = 1),
-        ("last zero byte", |l| l[SECOND + 3] = 1),
-        ("dependents of a lost one", |l| l[FIRST + 7] = 1),
-        ("byte past the record", |l| l[FIRST + 8 + 13] = 1),
+        ("last zero byte", |l| l[SECOND + DEPENDENTS_AT - 1] = 1),
+        ("dependents of a lost one", |l| l[FIRST_RECORD - 1] = 1),
+        ("byte past the record", |l| l[FIRST_RECORD + 13] = 1),
         ("last byte of a slot", |l| l[THIRD - 1] = 1),
         ("a used slot after a free one", |l| {
             let second = l[SECOND..THIRD].to_vec();
@@ -142,18 +172,18 @@ fn every_rule_of_a_log() {
         }),
         ("first byte of a free slot", |l| l[THIRD] = 1),
         ("last byte of a free slot", |l| *l.last_mut().unwrap() = 1),
-        ("falling sequence", |l| l[FIRST + 8 + 2] = 6),
-        ("same sequence twice", |l| l[FIRST + 8 + 2] = 5),
+        ("falling sequence", |l| l[FIRST_RECORD + 2] = 6),
+        ("same sequence twice", |l| l[FIRST_RECORD + 2] = 5),
         ("waiting before lost", |l| (l[FIRST], l[SECOND]) = (1, 2)),
-        ("sequence 0", |l| l[FIRST + 8 + 2] = 0),
-        ("program 32", |l| l[FIRST + 8 + 6] = 32),
-        ("kind 9", |l| l[FIRST + 8 + 7] = 9),
-        ("map of another kind", |l| l[FIRST + 8] = 65),
-        ("listed object n", |l| l[FIRST + 8 + 9] = 6),
-        ("listed object twice", |l| l[FIRST + 8 + 9] = 0),
-        ("object n", |l| l[SECOND + 8 + 8] = 6),
-        ("object 0", |l| l[SECOND + 8 + 8] = 0),
-        ("length over b blocks", |l| l[SECOND + 8 + 10] = 1),
+        ("sequence 0", |l| l[FIRST_RECORD + 2] = 0),
+        ("program 32", |l| l[FIRST_RECORD + 6] = 32),
+        ("kind 9", |l| l[FIRST_RECORD + 7] = 9),
+        ("map of another kind", |l| l[FIRST_RECORD] = 65),
+        ("listed object n", |l| l[FIRST_RECORD + 9] = 6),
+        ("listed object twice", |l| l[FIRST_RECORD + 9] = 0),
+        ("object n", |l| l[SECOND_RECORD + 8] = 6),
+        ("object 0", |l| l[SECOND_RECORD + 8] = 0),
+        ("length over b blocks", |l| l[SECOND_RECORD + 10] = 1),
     ];
     for (rule, change) in broken {
         let mut log = stored();
@@ -165,12 +195,12 @@ fn every_rule_of_a_log() {
 #[test]
 fn a_log_at_its_limits_is_good() {
     let good: Vec<(&str, Change)> = vec![
-        ("any marks", |l| l[4..8].fill(255)),
-        ("no dependents", |l| l[8 + 1048 + 4..8 + 1048 + 8].fill(0)),
-        ("any dependents", |l| l[8 + 1048 + 4..8 + 1048 + 8].fill(255)),
+        ("any marks", |l| l[4..LOG_HEAD].fill(255)),
+        ("no dependents", |l| l[SECOND + DEPENDENTS_AT..SECOND_RECORD].fill(0)),
+        ("any dependents", |l| l[SECOND + DEPENDENTS_AT..SECOND_RECORD].fill(255)),
         ("next number at its end", |l| l[..4].fill(255)),
-        ("both lost", |l| (l[8 + 1048], l[8 + 1048 + 7]) = (2, 0)),
-        ("both waiting", |l| l[8] = 1),
+        ("both lost", |l| (l[SECOND], l[SECOND_RECORD - 1]) = (2, 0)),
+        ("both waiting", |l| l[FIRST] = 1),
     ];
     for (what, change) in good {
         let mut log = stored();

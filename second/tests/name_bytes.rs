@@ -1,4 +1,4 @@
-//! Document 02, K3: a name may hold every byte but 0 and 47, as before. Each byte is tried in every call that takes
+//! Document 02, K3: a name may hold every byte but 0 and 47. Each byte is tried in every call that takes
 //! names, in stored names and in records; and the stored script `name-bytes` notices wrong rules: it is played by the
 //! sources of this program with other `names`.
 #![allow(dead_code)]
@@ -7,6 +7,7 @@ mod common;
 use common::{waiting, World};
 use second::log::Log;
 use second::record::{Kind, Record};
+use second::volume::NAME_AT;
 use std::path::Path;
 use std::rc::Rc;
 
@@ -33,7 +34,7 @@ fn calls_by_the_examples() {
         let found = if name.starts_with(b"a/") { Err(8) } else { answer(Ok(2)) };
         assert_eq!(world.lookup(0, &[b"/", name.as_slice()].concat()), found, "{name:?}");
         if good {
-            assert_eq!(world.view[world.entry_at(2) + 4..][..name.len()], name, "stored as given");
+            assert_eq!(world.view[world.entry_at(2) + NAME_AT..][..name.len()], name, "stored as given");
             assert_eq!(world.rmdir(0, 0, &name), Err(9), "{name:?}");
             assert_eq!(world.rmfile(0, 0, &name), Ok(3), "{name:?}");
         }
@@ -48,7 +49,7 @@ fn stored_names_and_records_by_the_examples() {
         world.push_all();
         let before = world.clone();
         let answer = if good { Ok(0) } else { Err(2) };
-        let at = world.entry_at(1) + 4;
+        let at = world.entry_at(1) + NAME_AT;
         world.view[at..at + name.len()].copy_from_slice(&name);
         assert_eq!(world.cut(), answer, "{name:?} in the view");
         let mut world = before.clone();

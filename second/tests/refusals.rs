@@ -5,7 +5,8 @@
 //! Two faults with no part in common hold at once when both are made.
 
 mod common;
-use common::{forder_record, lost, set_length_record, waiting, World};
+use common::{entry_length, forder_record, log_length, lost, set_length_record, waiting, World};
+use second::geometry::LONGEST_RECORD;
 use second::log::Log;
 
 /// A call with all arguments that any call takes; each uses its own.
@@ -71,6 +72,11 @@ fn fault(number: u64, parts: &'static [&'static str], make: fn(&mut Setup)) -> F
     Fault { number, parts, make }
 }
 
+/// The lengths of an entry, of the volumes and of the log of [`base`].
+const ENTRY: usize = entry_length(2);
+const VOLUME: usize = 8 * ENTRY;
+const LOG: usize = log_length(4);
+
 /// n = 8, b = 2, m = 4. Sent: 1 file f of 10 bytes, 2 empty directory d, 3 directory e with 4 file x, 6 empty
 /// directory g. 5 and 7 are free. Lost: a forder of program 0. Waiting: a set length of 1, then one of it again.
 fn base(call: &'static str) -> Setup {
@@ -83,7 +89,7 @@ fn base(call: &'static str) -> Setup {
     world.mkdir(0, 0, b"g", 6).unwrap();
     world.push_all();
     world.m = 4;
-    world.log.truncate(8 + 4 * 1048);
+    world.log.truncate(LOG);
     let slots = vec![
         lost(forder_record(20, 0, &[0])),
         waiting(set_length_record(21, 1, 1, 10)),
@@ -114,14 +120,14 @@ fn buffer_faults() -> Vec<Fault> {
         fault(1, &["b"], |s| s.world.b = 65),
         fault(1, &["m"], |s| s.world.m = 0),
         fault(1, &["m"], |s| s.world.m = 1025),
-        fault(1, &["server length"], |s| s.world.server.truncate(8 * 2116 - 1)),
+        fault(1, &["server length"], |s| s.world.server.truncate(VOLUME - 1)),
         fault(1, &["server length"], |s| s.world.server.push(0)),
-        fault(1, &["view length"], |s| s.world.view.truncate(8 * 2116 - 1)),
+        fault(1, &["view length"], |s| s.world.view.truncate(VOLUME - 1)),
         fault(1, &["view length"], |s| s.world.view.push(0)),
-        fault(1, &["log length"], |s| s.world.log.truncate(8 + 4 * 1048 - 1)),
+        fault(1, &["log length"], |s| s.world.log.truncate(LOG - 1)),
         fault(1, &["log length"], |s| s.world.log.push(0)),
-        fault(2, &["server"], |s| s.world.server[7 * 2116] = 3),
-        fault(2, &["view"], |s| s.world.view[7 * 2116] = 3),
+        fault(2, &["server"], |s| s.world.server[7 * ENTRY] = 3),
+        fault(2, &["view"], |s| s.world.view[7 * ENTRY] = 3),
         fault(2, &["slot 4"], |s| *s.world.log.last_mut().unwrap() = 1),
     ]
 }
@@ -545,8 +551,8 @@ fn take_and_renew_skip_4() {
     let mut world = base("take").world;
     world.log[4] = 255;
     assert_eq!(world.renew(0), Err(18));
-    assert_eq!(world.take(0, &mut [0; 1040]), Ok(11));
-    assert_eq!(world.take(0, &mut [0; 1040]), Err(16));
+    assert_eq!(world.take(0, &mut [0; LONGEST_RECORD]), Ok(11));
+    assert_eq!(world.take(0, &mut [0; LONGEST_RECORD]), Err(16));
     assert_eq!(world.renew(0), Ok(0));
     assert_eq!(world.log_now().marks, 254);
     assert_eq!(world.renew(0), Ok(0), "an unmarked program may renew");

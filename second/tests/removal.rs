@@ -2,9 +2,11 @@
 //! Both log kind 3, which applies to a file or an empty directory, whichever call issued it.
 
 mod common;
-use common::{forder_record, lost, waiting, Answer, World};
+use common::{entry_length, forder_record, lost, waiting, Answer, World};
+use second::geometry::{ENTRY_HEAD, LONGEST_RECORD};
 use second::log::{Log, Slot};
 use second::record::{Kind, Record};
+use second::volume::{LENGTH_AT, NAME_AT};
 
 type Call = fn(&mut World, u64, u64, &[u8]) -> Answer;
 const CALLS: [Call; 2] = [World::rmfile, World::rmdir];
@@ -78,7 +80,7 @@ fn with_a_full_log_and_with_no_number_left() {
 }
 
 #[test]
-fn a_wrong_choice_brings_no_dependence_and_takes_no_number() {
+fn a_wrong_removal_brings_no_dependence_and_takes_no_number() {
     let mut world = volume();
     world.write(1, 1, 0, b"d").unwrap();
     world.forder(2, &[2, 0]).unwrap();
@@ -122,7 +124,7 @@ fn both_are_kind_3_with_the_name_as_typed() {
     let texts: [&[u8]; 2] =
         [b"\x13\0\x01\0\0\0\x01\x03\x01\0\0\0\x04tASK", b"\x13\0\x02\0\0\0\x01\x03\x02\0\0\0\x04dOCS"];
     for (sequence, text) in (1..).zip(texts) {
-        let mut buffer = [238; 1040];
+        let mut buffer = [238; LONGEST_RECORD];
         assert_eq!(world.take(1, &mut buffer), Ok(17));
         assert_eq!(&buffer[..17], text);
         let head = second::read_record(0, &buffer).unwrap();
@@ -133,13 +135,13 @@ fn both_are_kind_3_with_the_name_as_typed() {
 
 /// A lost operation of kind 3 that stands in the log, of a file and of a directory, is taken as it stands.
 #[test]
-fn a_stored_loss_reads_as_it_did() {
+fn a_stored_loss_is_taken_as_it_stands() {
     for object in 1..4 {
         let record = Record { sequence: 9, program: 2, object, name: b"any".to_vec(), ..Record::blank(Kind::Remove) };
         let mut world = volume();
         world.set_log(&Log { next: 10, marks: 4, slots: vec![lost(record.clone())] });
         assert_eq!(world.renew(2), Err(18));
-        let mut buffer = [0; 1040];
+        let mut buffer = [0; LONGEST_RECORD];
         assert_eq!(world.take(2, &mut buffer), Ok(16));
         assert_eq!(buffer[..16], record.to_bytes());
         assert_eq!(buffer[..8], [19, 0, 9, 0, 0, 0, 2, 3]);
@@ -149,7 +151,7 @@ fn a_stored_loss_reads_as_it_did() {
 }
 
 #[test]
-fn the_view_says_which_choice_is_right() {
+fn the_view_says_which_removal_is_right() {
     let mut world = volume();
     world.rmfile(1, 0, b"Task").unwrap();
     world.mkdir(1, 0, b"task", 1).unwrap();
@@ -170,8 +172,8 @@ fn kind_3_applies_to_a_file_or_an_empty_directory_whichever_call_issued_it() {
         ("an empty file", true, |world, at| world.server[at] = 1),
         ("a file with bytes", true, |world, at| {
             world.server[at] = 1;
-            world.server[at + 64] = 2;
-            world.server[at + 68..at + 70].fill(7);
+            world.server[at + LENGTH_AT] = 2;
+            world.server[at + ENTRY_HEAD..][..2].fill(7);
         }),
         ("an empty directory", true, |world, at| world.server[at] = 2),
         ("a directory with a child", false, |world, at| {
@@ -180,7 +182,7 @@ fn kind_3_applies_to_a_file_or_an_empty_directory_whichever_call_issued_it() {
             let parent = (at / world.entry_at(1)) as u8;
             world.server[child..child + 5].copy_from_slice(&[1, 1, parent, 0, b'z']);
         }),
-        ("another name", false, |world, at| world.server[at + 4] = b'z'),
+        ("another name", false, |world, at| world.server[at + NAME_AT] = b'z'),
     ];
     for (call, name, object) in [(CALLS[0], b"f", 5), (CALLS[1], b"d", 6)] {
         for (what, applies, change) in changes {
@@ -195,7 +197,7 @@ fn kind_3_applies_to_a_file_or_an_empty_directory_whichever_call_issued_it() {
             assert_eq!(world.clone().fsync(2, 0, 1), if applies { (0, 1) } else { (2, 0) }, "{name:?} as {what}");
             assert_eq!(world.push(3), if applies { Ok(0) } else { Err(2) }, "{name:?} as {what}");
             match applies {
-                true => assert!(world.server[at..at + 1092].iter().all(|&byte| byte == 0), "freed whole"),
+                true => assert!(world.server[at..][..entry_length(1)].iter().all(|&byte| byte == 0), "freed whole"),
                 false => assert!(world == before),
             }
         }
@@ -223,7 +225,7 @@ fn removals_are_sent_in_their_order() {
 
 /// Slots of lost and of waiting operations fill the log alike.
 #[test]
-fn a_wrong_choice_among_losses() {
+fn a_wrong_removal_among_losses() {
     let mut world = volume();
     let slots = (1..=6).map(|sequence| forder_record(sequence, 9, &[0])).map(lost).collect();
     world.set_log(&Log { next: 7, marks: 0, slots });

@@ -10,7 +10,7 @@ use std::path::Path;
 
 const SCRIPTS: [&str; 3] = ["removal", "call-rmfile", "call-rmdir"];
 
-/// A line about to be played, with the buffers before it and the removals accepted so far, by number.
+/// A line about to be played, with the buffers and the accepted removals before it, these by number.
 struct Try<'a> {
     player: &'a mut Player,
     line: &'a str,
@@ -61,7 +61,7 @@ impl Try<'_> {
     }
 
     /// Whether a removal finds an object of the other kind.
-    fn wrong_choice(&mut self) -> bool {
+    fn wrong_removal(&mut self) -> bool {
         let taken = if self.is("rmfile") { FILE } else { DIRECTORY };
         self.found_kind().is_some_and(|(kind, _)| kind != taken)
     }
@@ -107,9 +107,9 @@ impl Try<'_> {
         Outcome::Prints(if self.is("push") { other.to_string() } else { format!("{other} 0") })
     }
 
-    /// The answer that the other call would give in place of 9 for a wrong choice, if it is this one.
+    /// The answer that the other call would give in place of 9 for a wrong removal, if it is this one.
     fn late_if(&mut self, number: u64) -> Outcome {
-        if !self.wrong_choice() {
+        if !self.wrong_removal() {
             return self.right();
         }
         let before = self.player.clone();
@@ -132,7 +132,7 @@ type Version = fn(&mut Try) -> Outcome;
 /// Wrong versions of what each call takes and of the order of its refusals.
 const OF_THE_CALLS: [(&str, Version); 19] = [
     ("each takes both kinds", |t| {
-        let holds = t.wrong_choice();
+        let holds = t.wrong_removal();
         t.other_if(holds)
     }),
     ("the two swapped", |t| t.other_if(t.is_removal())),
@@ -150,32 +150,32 @@ const OF_THE_CALLS: [(&str, Version); 19] = [
         let on_server = found.map(|object| t.volume(0).kind(object)).filter(|&kind| kind != 0);
         t.other_if(on_server.is_some() && on_server != kind)
     }),
-    ("a wrong choice only by the stored spelling", |t| {
+    ("a wrong removal only by the stored spelling", |t| {
         let stored = t.found().map(|object| second::script::to_hexadecimal(t.volume(1).name(object)));
-        let holds = t.wrong_choice() && stored.as_deref() != t.words().get(3).copied();
+        let holds = t.wrong_removal() && stored.as_deref() != t.words().get(3).copied();
         t.other_if(holds)
     }),
     ("11 before 9", |t| {
         let holds = t.is("rmfile") && t.found_kind() == Some((DIRECTORY, true));
         t.answer_if(9, holds, 11)
     }),
-    ("a wrong choice after 11", |t| t.late_if(11)),
-    ("a wrong choice after 13", |t| t.late_if(13)),
-    ("a wrong choice after 14", |t| t.late_if(14)),
-    ("a wrong choice gives 8", |t| {
-        let holds = t.wrong_choice();
+    ("a wrong removal after 11", |t| t.late_if(11)),
+    ("a wrong removal after 13", |t| t.late_if(13)),
+    ("a wrong removal after 14", |t| t.late_if(14)),
+    ("a wrong removal gives 8", |t| {
+        let holds = t.wrong_removal();
         t.answer_if(9, holds, 8)
     }),
-    ("a wrong choice gives 11", |t| {
-        let holds = t.wrong_choice();
+    ("a wrong removal gives 11", |t| {
+        let holds = t.wrong_removal();
         t.answer_if(9, holds, 11)
     }),
-    ("a wrong choice before 3", |t| {
-        let holds = t.wrong_choice();
+    ("a wrong removal before 3", |t| {
+        let holds = t.wrong_removal();
         t.answer_if(3, holds, 9)
     }),
-    ("a wrong choice before 4", |t| {
-        let holds = t.wrong_choice();
+    ("a wrong removal before 4", |t| {
+        let holds = t.wrong_removal();
         t.answer_if(4, holds, 9)
     }),
     ("a parent that is a file gives 8", |t| {
@@ -190,8 +190,8 @@ const OF_THE_CALLS: [(&str, Version); 19] = [
         let holds = t.is("rmdir");
         t.answer_if(11, holds, 0)
     }),
-    ("a wrong choice brings dependence", |t| {
-        let object = t.wrong_choice().then(|| t.found()).flatten();
+    ("a wrong removal brings dependence", |t| {
+        let object = t.wrong_removal().then(|| t.found()).flatten();
         let answer = t.right();
         if let (Some(object), 9) = (object, code(&answer)) {
             let question = format!("stat {} {object}", t.words()[1]);
@@ -199,8 +199,8 @@ const OF_THE_CALLS: [(&str, Version); 19] = [
         }
         answer
     }),
-    ("a wrong choice takes a number", |t| {
-        let wrong = t.wrong_choice();
+    ("a wrong removal takes a number", |t| {
+        let wrong = t.wrong_removal();
         let answer = t.right();
         if wrong && code(&answer) == 9 {
             t.player.areas[2][0] = t.player.areas[2][0].wrapping_add(1);

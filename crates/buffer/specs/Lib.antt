@@ -1,7 +1,6 @@
+pub mod Geometry
 pub mod Numeral
-pub mod NumeralLaws
+pub mod Laws
 pub mod Patch
-pub mod PatchLaws
+pub mod Decoded
 pub mod Code
-pub mod SpanLaws
-pub mod ZeroLaws

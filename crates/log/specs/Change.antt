@@ -4,7 +4,7 @@ use mathlib.Core.List.{List, [], _∷_, _++_, map}
 use mathlib.Core.Bool.{Bool, not, _&&_, cond}
 use mathlib.Core.Option.{Option, none, some}
 use lib.Dec.{eqb}
-use Rattle.records.specs.Operation.{Operation, Record}
+use Rattle.record.specs.Operation.{Operation, Record}
 use Rattle.log.specs.Programs.{with, without, union}
 use Rattle.log.specs.Slot.{waiting, lost, Slot, withState, withDependents, Log, withNext, withMarks, withSlots, isWaiting, sequenceOf}
 use Rattle.log.specs.Depend.{noted}
@@ -12,7 +12,7 @@ use Rattle.log.specs.Depend.{noted}
 -- the waiting operations, in issue order
 unfoldable pub waitingOf : List Slot → List Record
 waitingOf [] = []
-waitingOf (s ∷ l) = cond (isWaiting s) (s .loss ∷ waitingOf l) (waitingOf l)
+waitingOf (s ∷ l) = cond (isWaiting s) (s .recorded ∷ waitingOf l) (waitingOf l)
 
 -- an accepted call brings the dependence of its program on what its operands reach
 abbrev pub note : ℕ → List ℕ → Log → Log
@@ -20,7 +20,7 @@ note p ops l = withSlots (noted p ops (l .slots)) l
 
 -- an operation waits, and its issuer depends on it
 abbrev pub waitingSlot : Record → Slot
-waitingSlot r = record { state = waiting; dependents = with 0 (r .program); loss = r }
+waitingSlot r = record { state = waiting; dependents = with 0 (r .program); recorded = r }
 
 -- "takes one sequence number and waits"
 unfoldable pub issue : ℕ → Operation → Log → Log
@@ -53,11 +53,11 @@ discard l = withMarks (union (l .marks) (dependentsOf (l .slots))) (withSlots (m
 
 -- "Take writes the earliest loss of a program and frees its slot."
 abbrev pub isLossOf : ℕ → Slot → Bool
-isLossOf p s = not (isWaiting s) && eqb (s .loss .program) p
+isLossOf p s = not (isWaiting s) && eqb (s .recorded .program) p
 
 unfoldable pub earliest : (Slot → Bool) → List Slot → Option Record
 earliest f [] = none
-earliest f (s ∷ l) = cond (f s) (some (s .loss)) (earliest f l)
+earliest f (s ∷ l) = cond (f s) (some (s .recorded)) (earliest f l)
 
 abbrev pub taken : ℕ → Log → Log
 taken p l = withSlots (removed (isLossOf p) (l .slots)) l
@@ -73,4 +73,4 @@ waitingAt n l = earliest (isSequence n) (l .slots)
 -- a program's losses, in order
 unfoldable pub lossesOf : ℕ → List Slot → List Record
 lossesOf p [] = []
-lossesOf p (s ∷ l) = cond (isLossOf p s) (s .loss ∷ lossesOf p l) (lossesOf p l)
+lossesOf p (s ∷ l) = cond (isLossOf p s) (s .recorded ∷ lossesOf p l) (lossesOf p l)

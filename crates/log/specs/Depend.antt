@@ -2,7 +2,7 @@
 use Prim.Native.Nat.{ℕ}
 use mathlib.Core.List.{List, [], _∷_, _++_}
 use mathlib.Core.Bool.{_&&_, cond}
-use Rattle.records.specs.Operation.{operands}
+use Rattle.record.specs.Operation.{operands}
 use Rattle.log.specs.Programs.{with}
 use Rattle.log.specs.Slot.{Slot, withDependents, isWaiting}
 use Rattle.log.specs.Order.{shares}
@@ -13,11 +13,11 @@ unfoldable pub reach : List ℕ → List Slot → List ℕ
 reach ops [] = ops
 reach ops (s ∷ l) =
     let r = reach ops l in
-    cond (isWaiting s && shares (operands (s .loss .operation)) r) (operands (s .loss .operation) ++ r) r
+    cond (isWaiting s && shares (operands (s .recorded .operation)) r) (operands (s .recorded .operation) ++ r) r
 
 -- the slots after an accepted call of a program with given operands: it now depends on each waiting operation that it reaches
 unfoldable pub noted : ℕ → List ℕ → List Slot → List Slot
 noted p ops [] = []
 noted p ops (s ∷ l) =
-    cond (isWaiting s && shares (operands (s .loss .operation)) (reach ops l)) (withDependents (with (s .dependents) p) s) s
+    cond (isWaiting s && shares (operands (s .recorded .operation)) (reach ops l)) (withDependents (with (s .dependents) p) s) s
     ∷ noted p ops l

@@ -4,8 +4,8 @@ use mathlib.Core.List.{List, [], _∷_}
 use mathlib.Core.Bool.{Bool, true, not, _&&_, _||_}
 use lib.ListN.{length}
 use lib.Dec.{leb, ltb, eqb}
-use Rattle.records.specs.Operation.{Record}
-use Rattle.records.specs.Fields.{valid, fits}
+use Rattle.record.specs.Operation.{Record}
+use Rattle.record.specs.Fields.{valid, fits}
 
 -- "state (1: 0 free, 1 waiting, 2 lost)"; free slots are those after the used ones
 pub data State : Type 0 where
@@ -20,14 +20,14 @@ stateNumber lost = 2
 pub record Slot : Type 0 where
   pub state : State
   pub dependents : ℕ
-  pub loss : Record
+  pub recorded : Record
 
 -- a slot with another state, and with other dependents
 abbrev pub withState : State → Slot → Slot
-withState t s = record { state = t; dependents = s .dependents; loss = s .loss }
+withState t s = record { state = t; dependents = s .dependents; recorded = s .recorded }
 
 abbrev pub withDependents : ℕ → Slot → Slot
-withDependents d s = record { state = s .state; dependents = d; loss = s .loss }
+withDependents d s = record { state = s .state; dependents = d; recorded = s .recorded }
 
 -- "next sequence number (4, from 1), marked programs (4 ..), then .. slots": the used ones, in their order
 pub record Log : Type 0 where
@@ -49,12 +49,12 @@ abbrev pub isWaiting : Slot → Bool
 isWaiting s = eqb (stateNumber (s .state)) 1
 
 abbrev pub sequenceOf : Slot → ℕ
-sequenceOf s = s .loss .sequence
+sequenceOf s = s .recorded .sequence
 
 -- "Records fit n and b"; any 32 bits are dependents, "zero if lost"
 abbrev pub goodSlot : ℕ → ℕ → Slot → Bool
 goodSlot n b s =
-    (valid (s .loss) && fits n b (s .loss)) && (ltb (s .dependents) (2 ^ 32) && (isWaiting s || eqb (s .dependents) 0))
+    (valid (s .recorded) && fits n b (s .recorded)) && (ltb (s .dependents) (2 ^ 32) && (isWaiting s || eqb (s .dependents) 0))
 
 unfoldable pub goodSlots : ℕ → ℕ → List Slot → Bool
 goodSlots n b [] = true
@@ -71,8 +71,8 @@ rising next (s ∷ []) = ltb (sequenceOf s) next
 rising next (s ∷ t ∷ l) = follows s t && rising next (t ∷ l)
 
 -- "next sequence number (4, from 1)"; 4,294,967,295 is the last
-unfoldable pub wellFormed : ℕ → ℕ → ℕ → Log → Bool
-wellFormed n b m l =
+unfoldable pub wellFormedLog : ℕ → ℕ → ℕ → Log → Bool
+wellFormedLog n b m l =
     (leb 1 (l .next) && ltb (l .next) (2 ^ 32))
     && (ltb (l .marks) (2 ^ 32) && (leb (length (l .slots)) m && (goodSlots n b (l .slots) && rising (l .next) (l .slots))))
 

@@ -1,16 +1,18 @@
 -- Document 01, "Geometry and stored form": the bytes of a log, and the log of some bytes.
 use Prim.Native.Nat.{ℕ, zero, suc, _+_, _*_}
 use mathlib.Core.List.{List, [], _∷_, _++_}
-use mathlib.Core.Bool.{Bool, true, false, _&&_, cond}
+use mathlib.Core.Bool.{Bool, _&&_, cond}
 use mathlib.Core.Option.{Option, none, some}
 use lib.ListN.{length, getD, take, drop, replicate}
-use lib.Dec.{leb, eqb}
+use lib.Dec.{eqb}
+use Rattle.buffer.specs.Geometry.{goodObjects, goodBlocks, goodCapacity}
+use Rattle.buffer.specs.Decoded.{isSome}
 use Rattle.buffer.specs.Numeral.{bytes, numeral}
-use Rattle.records.specs.Operation.{Record}
-use Rattle.records.specs.Fields.{encode}
-use Rattle.records.specs.Decode.{decodeRecord}
-use Rattle.entry.specs.Stored.{padded, sameBytes}
-use Rattle.log.specs.Slot.{waiting, lost, stateNumber, Slot, Log, wellFormed}
+use Rattle.record.specs.Operation.{Record}
+use Rattle.record.specs.Fields.{encode}
+use Rattle.record.specs.Decode.{decodeRecord}
+use Rattle.volume_entry.specs.Stored.{padded, sameBytes}
+use Rattle.log.specs.Slot.{waiting, lost, stateNumber, Slot, Log, wellFormedLog}
 
 -- "next sequence number (4, from 1), marked programs (4, bit p for program p)"
 abbrev pub headBytes : ℕ
@@ -25,8 +27,8 @@ abbrev pub dependentsAt : ℕ
 dependentsAt = 4
 
 -- where the loss record begins: behind "dependents (4"
-abbrev pub lossAt : ℕ
-lossAt = 8
+abbrev pub recordStart : ℕ
+recordStart = 8
 
 -- the room for a loss record in a slot
 abbrev pub recordBytes : ℕ
@@ -38,7 +40,7 @@ logBytes m = headBytes + m * slotBytes
 -- "state (1 ..), 3 zero bytes, dependents (4 ..), a loss record, zeros"
 unfoldable pub encodeSlot : Slot → List ℕ
 encodeSlot s =
-    bytes 1 (stateNumber (s .state)) ++ (replicate 3 0 ++ (bytes 4 (s .dependents) ++ padded recordBytes (encode (s .loss))))
+    bytes 1 (stateNumber (s .state)) ++ (replicate 3 0 ++ (bytes 4 (s .dependents) ++ padded recordBytes (encode (s .recorded))))
 
 unfoldable pub encodeSlots : List Slot → List ℕ
 encodeSlots [] = []
@@ -56,12 +58,12 @@ encodeLog m l = encodeHead l ++ padded (m * slotBytes) (encodeSlots (l .slots))
 abbrev pub slotFrom : ℕ → ℕ → Option Record → Option Slot
 slotFrom zero d r = none
 slotFrom (suc zero) d none = none
-slotFrom (suc zero) d (some r) = some (record { state = waiting; dependents = d; loss = r })
+slotFrom (suc zero) d (some r) = some (record { state = waiting; dependents = d; recorded = r })
 slotFrom (suc (suc k)) d none = none
-slotFrom (suc (suc k)) d (some r) = some (record { state = lost; dependents = d; loss = r })
+slotFrom (suc (suc k)) d (some r) = some (record { state = lost; dependents = d; recorded = r })
 
 unfoldable pub readSlot : List ℕ → Option Slot
-readSlot s = slotFrom (getD s 0 0) (numeral (take 4 (drop dependentsAt s))) (decodeRecord (drop lossAt s))
+readSlot s = slotFrom (getD s 0 0) (numeral (take 4 (drop dependentsAt s))) (decodeRecord (drop recordStart s))
 
 -- "Used slots come first": those up to the first that is none
 abbrev pub onSlot : Option Slot → List Slot → List Slot
@@ -78,17 +80,13 @@ readLog m s = record { next = numeral (take 4 s); marks = numeral (take 4 (drop 
 -- bytes are of the right form exactly if they are those of a well-formed log, which is then the one that their fields tell of
 unfoldable pub decodeLog : ℕ → ℕ → ℕ → List ℕ → Option Log
 decodeLog n b m s =
-    cond (wellFormed n b m (readLog m s) && sameBytes (encodeLog m (readLog m s)) s) (some (readLog m s)) none
+    cond (wellFormedLog n b m (readLog m s) && sameBytes (encodeLog m (readLog m s)) s) (some (readLog m s)) none
 
 -- "n objects (2..256), b blocks a file (1..64) and m log slots (1..1,024)", and the log's bytes: else "1 Wrong buffer"
 unfoldable pub lentLog : ℕ → ℕ → ℕ → List ℕ → Bool
 lentLog n b m s =
-    (leb 2 n && leb n 256) && ((leb 1 b && leb b 64) && ((leb 1 m && leb m 1024) && eqb (length s) (logBytes m)))
-
-abbrev pub isLog : Option Log → Bool
-isLog none = false
-isLog (some l) = true
+    goodObjects n && (goodBlocks b && (goodCapacity m && eqb (length s) (logBytes m)))
 
 -- the bytes are lent as they should be, and of the right form: else "2 Damaged"
 unfoldable pub formedLog : ℕ → ℕ → ℕ → List ℕ → Bool
-formedLog n b m s = lentLog n b m s && isLog (decodeLog n b m s)
+formedLog n b m s = lentLog n b m s && isSome (decodeLog n b m s)

@@ -1,1 +1,1 @@
-// The log (document 01, "Geometry and stored form" and "Order and dependence"): so far its definitions, in specs/.
+// The log (document 01, "Geometry and stored form" and "Order and dependence"): definitions and laws, in specs/.

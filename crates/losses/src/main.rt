@@ -1,27 +1,15 @@
 // Reads loss records from standard input and prints sequence, program and kind of each, a line each.
-ghost use mathlib.Core.Path.{_≡_};
-ghost use Prim.Native.Nat.{_+_, _*_, _<_, _≤_};
-ghost use lib.ListN.{length, take};
-ghost use Rattle.report.specs.Pass.{longest};
-use libc::STDIN_FILENO;
+ghost use Prim.Native.Nat.{_+_, _*_, _≤_};
+ghost use lib.ListN.{length};
+ghost use Rattle.losses_report.specs.Pass.{longest};
 use libc::STDOUT_FILENO;
-use report::pass::State;
-use report::pass::pass;
-use report::rest::keep_rest;
+use losses_report::State;
+use losses_report::pass;
+use text::input::refill;
+use text::rest::keep_rest;
 
-// Reads once behind the bytes that are held, which stay, and says how many came. There is room for some, so none came only
-// at the end of the input, or where a read failed, which counts as its end.
-fn refill(buf: &mut [u8], held: usize) -> usize
-    requires { ⌜ held < length (now buf) ⌝ }
-    ensures { λ r. ⌜ (held + r ≤ length (now (buf .entry))) × (take held (now (buf .exit)) ≡ take held (now (buf .entry))) ⌝ }
-{
-    let room = &mut buf[held..];
-    let got = libc::read(STDIN_FILENO, room);
-    io::count(got, room)
-}
-
-// Goes through the input, a pass after each read, until a pass is done (`Run` of the crate `report`). An offset is exact for any input whose length a usize holds;
-// at a longer one it stops there.
+// Goes through the input, a pass after each read, until a pass is done (`Run` of the crate `losses_report`). An offset is
+// exact for any input whose length a usize holds; at a longer one it stops there.
 fn run(buf: &mut [u8], out: &mut [u8])
     requires { ⌜ (longest ≤ length (now buf)) × (2 * length (now buf) + 25 ≤ length (now out)) ⌝ }
 {

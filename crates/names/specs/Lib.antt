@@ -1,4 +1,3 @@
 pub mod Name
-pub mod NameLaws
+pub mod Laws
 pub mod Path
-pub mod PathLaws

@@ -6,6 +6,9 @@ ghost use lib.ListN.{length, take, drop};
 ghost use Rattle.names.specs.Name.{allPermitted, isDots, nameTextOf, lowerCase, sameName};
 ghost use Rattle.names.specs.Path.{pathTextOf, upToSlash, componentAt};
 
+// "A name has 1..60 bytes".
+pub const LONGEST_NAME: usize = 60;
+
 // What the text of a name is.
 pub enum NameText {
     Fine,
@@ -63,7 +66,7 @@ pub fn name_text(s: &[u8]) -> NameText
         return NameText::Bad;
     }
     if all_permitted(s) {
-        if s.len() <= 60 {
+        if s.len() <= LONGEST_NAME {
             return NameText::Fine;
         }
         return NameText::Long;
@@ -122,7 +125,8 @@ pub fn path_text(path: &[u8]) -> PathText
 // Where the component that begins at a place ends: at the next slash, or at the path's end.
 fn component_end(path: &[u8], at: usize) -> usize
     requires { ⌜ at ≤ length (now path) ⌝ }
-    ensures { λ r. ⌜ (at ≤ r) × (r ≤ length (now (path .entry))) × (take (r - at) (drop at (now (path .entry))) ≡ upToSlash (drop at (now (path .entry)))) ⌝ }
+    ensures { λ r. ⌜ (at ≤ r) × (r ≤ length (now (path .entry))) × (take (r - at) (drop at (now (path .entry)))
+        ≡ upToSlash (drop at (now (path .entry)))) ⌝ }
 {
     let mut i = at;
     while i < path.len() {

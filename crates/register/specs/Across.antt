@@ -4,9 +4,9 @@ use mathlib.Core.Path.{_≡_}
 use mathlib.Core.List.{List, [], _∷_, _++_}
 use mathlib.Core.Bool.{Bool, true}
 use lib.ListN.{length, take, drop}
-use Rattle.records.specs.Operation.{Operation, recordOf}
-use Rattle.entry.specs.Entry.{contentsOf}
-use Rattle.search.specs.Volume.{entryAt}
+use Rattle.record.specs.Operation.{Operation, recordOf}
+use Rattle.volume_entry.specs.Entry.{contentsOf}
+use Rattle.volume_tree.specs.Volume.{entryAt}
 use Rattle.session.specs.Call.{Geometry, write}
 use Rattle.register.specs.Register.{Register, Acknowledged, waiting, isWaiting, isLost, viewOf}
 use Rattle.register.specs.History.{Is}
@@ -39,10 +39,10 @@ secondOperation {m} w =
 
 -- the operation of a number waits, is lost
 abbrev pub WaitsAt : Register → ℕ → Type 0
-WaitsAt r q = (a : Acknowledged) × Is a r × (a .loss .sequence ≡ q) × (isWaiting a ≡ true)
+WaitsAt r q = (a : Acknowledged) × Is a r × (a .recorded .sequence ≡ q) × (isWaiting a ≡ true)
 
 abbrev pub LostAt : Register → ℕ → Type 0
-LostAt r q = (a : Acknowledged) × Is a r × (a .loss .sequence ≡ q) × (isLost a ≡ true)
+LostAt r q = (a : Acknowledged) × Is a r × (a .recorded .sequence ≡ q) × (isLost a ≡ true)
 
 -- some pushes and then a cut, all accepted, that leave the operation of one number sent and that of another lost
 pub record KeepsOnly (g : Geometry) (s : State) (kept gone : ℕ) : Type 0 where
@@ -57,11 +57,11 @@ pub record TwoOperations (g : Geometry) (m : Moment) (w : Across m) (r : Run) : 
   pub overwrite : Acknowledged
   pub append : Acknowledged
   pub added : next g (m .call) (m .before) .register .operations ≡ m .before .register .operations ++ (overwrite ∷ append ∷ [])
-  pub first : overwrite .loss ≡ recordOf (length (m .before .register .operations) + 1) (w .program) (firstOperation w)
-  pub second : append .loss ≡ recordOf (length (m .before .register .operations) + 2) (w .program) (secondOperation w)
+  pub first : overwrite .recorded ≡ recordOf (length (m .before .register .operations) + 1) (w .program) (firstOperation w)
+  pub second : append .recorded ≡ recordOf (length (m .before .register .operations) + 2) (w .program) (secondOperation w)
   pub wait : (overwrite .fate ≡ waiting) × (append .fate ≡ waiting)
-  pub told : m .answer .results ≡ overwrite .loss .sequence ∷ []
+  pub told : m .answer .results ≡ overwrite .recorded .sequence ∷ []
   -- "A cut may keep the overwrite without the append": wherever the list ends, as long as the append waits
-  pub may : WaitsAt (r .last .register) (append .loss .sequence) → KeepsOnly g (r .last) (overwrite .loss .sequence) (append .loss .sequence)
+  pub may : WaitsAt (r .last .register) (append .recorded .sequence) → KeepsOnly g (r .last) (overwrite .recorded .sequence) (append .recorded .sequence)
   -- "and never the reverse": wherever the list ends, after a cut too
-  pub never : SentAt (r .last .register) (append .loss .sequence) → SentAt (r .last .register) (overwrite .loss .sequence)
+  pub never : SentAt (r .last .register) (append .recorded .sequence) → SentAt (r .last .register) (overwrite .recorded .sequence)

@@ -7,12 +7,12 @@ use mathlib.Core.Bool.{Bool, true, false}
 use mathlib.Core.Option.{some}
 use lib.ListN.{length, replicate}
 use Rattle.returned.specs.Returned
-use Rattle.records.specs.Operation.{Record, operands}
-use Rattle.records.specs.Fields.{member, encode, valid}
-use Rattle.records.specs.Decode.{decodeRecord}
-use Rattle.search.specs.Volume.{Volume}
-use Rattle.search.specs.Stored.{encodeVolume}
-use Rattle.applies.specs.Apply.{applies}
+use Rattle.record.specs.Operation.{Record, operands}
+use Rattle.record.specs.Fields.{member, encode, valid}
+use Rattle.record.specs.Decode.{decodeRecord}
+use Rattle.volume_tree.specs.Volume.{Volume}
+use Rattle.volume_tree.specs.Stored.{encodeVolume}
+use Rattle.volume_apply.specs.Apply.{applies}
 use Rattle.log.specs.Programs.{holds}
 use Rattle.log.specs.Order.{PrecedesIn, needed}
 use Rattle.log.specs.Change.{waitingOf, lossesOf}
@@ -32,15 +32,15 @@ AppliesInTurn v l = (before after : List Record) (r : Record) → l ≡ before +
 
 -- the operation of a number is sent
 abbrev pub SentAt : Register → ℕ → Type 0
-SentAt r q = (a : Acknowledged) × Is a r × (a .loss .sequence ≡ q) × (isSent a ≡ true)
+SentAt r q = (a : Acknowledged) × Is a r × (a .recorded .sequence ≡ q) × (isSent a ≡ true)
 
 -- what a successful fsync covers: "all waiting operations with that object as operand and their predecessors", as they wait
 pub record Covers (r : Register) (o : ℕ) (a : Acknowledged) : Type 0 where
   pub acknowledged : Is a r
   pub waits : isWaiting a ≡ true
   pub why :
-      (member o (operands (a .loss .operation)) ≡ true)
-      ⊎ ((b : Acknowledged) × Is b r × (isWaiting b ≡ true) × (member o (operands (b .loss .operation)) ≡ true) × Precedes r a b)
+      (member o (operands (a .recorded .operation)) ≡ true)
+      ⊎ ((b : Acknowledged) × Is b r × (isWaiting b ≡ true) × (member o (operands (b .recorded .operation)) ≡ true) × Precedes r a b)
 
 -- no waiting operation precedes one
 abbrev pub Unpreceded : Register → Acknowledged → Type 0
@@ -54,13 +54,13 @@ pub data Breaks (m : Moment) : Type 0 where
 -- every closed set, told by the members' numbers: all that the whole list sent, none that was lost before a call, and no predecessor of
 -- a member left out. Where the list ends in that call, and it is a cut or loses the link, the set adds only what this call lost
 pub record ClosedSet (before after : Register) (set : ℕ → Bool) : Type 0 where
-  pub sent : (a : Acknowledged) → Is a after → isSent a ≡ true → set (a .loss .sequence) ≡ true
-  pub added : (a : Acknowledged) → Is a before → isLost a ≡ true → set (a .loss .sequence) ≡ false
-  pub closed : (a b : Acknowledged) → Is a after → Is b after → Precedes after a b → set (b .loss .sequence) ≡ true → set (a .loss .sequence) ≡ true
+  pub sent : (a : Acknowledged) → Is a after → isSent a ≡ true → set (a .recorded .sequence) ≡ true
+  pub added : (a : Acknowledged) → Is a before → isLost a ≡ true → set (a .recorded .sequence) ≡ false
+  pub closed : (a b : Acknowledged) → Is a after → Is b after → Precedes after a b → set (b .recorded .sequence) ≡ true → set (a .recorded .sequence) ≡ true
 
 -- the record of an acknowledged operation
-abbrev pub lossOf : Acknowledged → Record
-lossOf a = a .loss
+abbrev pub recordedOf : Acknowledged → Record
+recordedOf a = a .recorded
 
 -- what was fetched by a program, and then what the log still holds of its losses
 abbrev pub ownLosses : ℕ → Run → Model → List (List ℕ)
@@ -71,7 +71,7 @@ pub record Adds (g : Geometry) (m : Moment) : Type 0 where
   pub first : Acknowledged
   pub others : List Acknowledged
   pub added : next g (m .call) (m .before) .register .operations ≡ m .before .register .operations ++ (first ∷ others)
-  pub told : m .answer .results ≡ first .loss .sequence ∷ []
+  pub told : m .answer .results ≡ first .recorded .sequence ∷ []
 
 -- what a call answers: an accepted change or forder the number of the operation that the register adds, an accepted fsync how many it
 -- needs, and an fsync that loses the link the k that it sends
@@ -101,17 +101,17 @@ pub record Demand (g : Geometry) (v : Volume) (r : Run) : Type 0 where
   -- the sent set leaves out no predecessor of a member
   pub closed : (a c : Acknowledged) → Is a (r .last .register) → Is c (r .last .register) → isSent c ≡ true → Precedes (r .last .register) a c → isSent a ≡ true
   -- what fsync of an object needs is exactly what it covers
-  pub needs : (o : ℕ) (q : Record) → List·Memᴰ q (neededFor o (r .last .register)) ↔ ((a : Acknowledged) × (a .loss ≡ q) × Covers (r .last .register) o a)
+  pub needs : (o : ℕ) (q : Record) → List·Memᴰ q (neededFor o (r .last .register)) ↔ ((a : Acknowledged) × (a .recorded ≡ q) × Covers (r .last .register) o a)
   -- the sent set holds what each successful fsync of the list covered
   pub covered :
       (m : Moment) → List·Memᴰ m (r .moments) → (p o k : ℕ) → m .call ≡ fsync p o k → m .answer .returned ≡ 0
-      → (a : Acknowledged) → Covers (m .before .register) o a → SentAt (r .last .register) (a .loss .sequence)
+      → (a : Acknowledged) → Covers (m .before .register) o a → SentAt (r .last .register) (a .recorded .sequence)
   -- each call answers the numbers of what it did
   pub answered : (m : Moment) → List·Memᴰ m (r .moments) → Answers g m
   -- the push of a waiting operation is accepted if and only if no waiting operation precedes it
   pub pushed :
       (a : Acknowledged) → Is a (r .last .register) → isWaiting a ≡ true
-      → (step g (push (a .loss .sequence)) (r .last .buffers) .gives .returned ≡ 0) ↔ Unpreceded (r .last .register) a
+      → (step g (push (a .recorded .sequence)) (r .last .buffers) .gives .returned ≡ 0) ↔ Unpreceded (r .last .register) a
   -- every closed set could have been sent: in place of the last call, and of any call of the list
   pub couldHaveBeenSent :
       (m : Moment) → List·Memᴰ m (r .moments) → (set : ℕ → Bool)
@@ -133,7 +133,7 @@ pub record Demand (g : Geometry) (v : Volume) (r : Run) : Type 0 where
   -- what a take wrote is read as the record of a lost operation of the program, which is valid
   pub decoded :
       (p : ℕ) (b : List ℕ) → List·Memᴰ b (fetchedBy p (r .moments))
-      → (a : Acknowledged) × Is a (r .last .register) × (isLost a ≡ true) × (a .loss .program ≡ p) × (valid (a .loss) ≡ true) × (decodeRecord b ≡ some (a .loss))
+      → (a : Acknowledged) × Is a (r .last .register) × (isLost a ≡ true) × (a .recorded .program ≡ p) × (valid (a .recorded) ≡ true) × (decodeRecord b ≡ some (a .recorded))
 
 -- two runs of which each ended in a broken link, and which acknowledged the same operations: what is lost and what was sent determine
 -- each other, and the server's bytes
@@ -181,7 +181,7 @@ pub record Demands : Type 0 where
       (g h : Geometry) (s t : Buffers) (v w : Volume) → Mounted g s v → Mounted h t w
       → g .objects ≡ h .objects → g .blocks ≡ h .blocks → mount g s .leaves .server ≡ mount h t .leaves .server
       → (cs ds : List Call) → Broken (play g s v cs) → Broken (play h t w ds)
-      → map lossOf (play g s v cs .last .register .operations) ≡ map lossOf (play h t w ds .last .register .operations)
+      → map recordedOf (play g s v cs .last .register .operations) ≡ map recordedOf (play h t w ds .last .register .operations)
       → Determined g h (play g s v cs) (play h t w ds)
   -- a waiting operation that applies may be sent if and only if nothing that must precede it still waits
   pub pushed :

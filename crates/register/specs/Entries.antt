@@ -2,7 +2,7 @@
 use mathlib.Core.Path.{_≡_}
 use mathlib.Core.List.{List, [], _∷_, map}
 use Rattle.session.specs.Call.{Geometry, Buffers, Call, Answer}
-use Rattle.session.specs.Step.{Result, step}
+use Rattle.session.specs.Step.{step}
 use Rattle.register.specs.Run.{State, Moment}
 
 -- one call of an entry: its arguments, its answer with its own buffer as it is left, and the three buffers as it leaves them

@@ -4,7 +4,7 @@ use mathlib.Core.Path.{_≡_}
 use mathlib.Core.List.{List·Memᴰ}
 use mathlib.Core.Bool.{Bool, true, false, not, _&&_}
 use lib.Dec.{ltb}
-use Rattle.records.specs.Operation.{operands}
+use Rattle.record.specs.Operation.{operands}
 use Rattle.log.specs.Order.{shares, touches, directlyPrecedes}
 use Rattle.register.specs.Register.{Acknowledged, Touch, Renewal, Register, Fate, waiting, sent, lost}
 
@@ -23,8 +23,8 @@ lostBefore a b = goneBy (b .issued) (a .fate)
 -- "A directly precedes B", of two acknowledged operations
 unfoldable pub directly : Acknowledged → Acknowledged → Bool
 directly a b =
-    ltb (a .loss .sequence) (b .loss .sequence)
-    && (not (lostBefore a b) && directlyPrecedes (a .loss .operation) (b .loss .operation))
+    ltb (a .recorded .sequence) (b .recorded .sequence)
+    && (not (lostBefore a b) && directlyPrecedes (a .recorded .operation) (b .recorded .operation))
 
 -- "An operation precedes another also through a third and further ones. One lost before B was issued neither touches nor
 -- precedes B."
@@ -35,13 +35,13 @@ pub data Precedes (r : Register) : Acknowledged → Acknowledged → Type 0 wher
 -- "A earlier than B touches B if they share an operand."
 abbrev pub touchesLater : Acknowledged → Acknowledged → Bool
 touchesLater a b =
-    ltb (a .loss .sequence) (b .loss .sequence)
-    && (not (lostBefore a b) && touches (a .loss .operation) (b .loss .operation))
+    ltb (a .recorded .sequence) (b .recorded .sequence)
+    && (not (lostBefore a b) && touches (a .recorded .operation) (b .recorded .operation))
 
 -- an operation touches the operands of a later call
 abbrev pub touchesCall : Acknowledged → Touch → Bool
 touchesCall a t =
-    ltb (a .issued) (t .time) && (not (goneBy (t .time) (a .fate)) && shares (operands (a .loss .operation)) (t .touched))
+    ltb (a .issued) (t .time) && (not (goneBy (t .time) (a .fate)) && shares (operands (a .recorded .operation)) (t .touched))
 
 -- "a later successful call of its own has an operand which that operation, directly or through a chain of touching operations,
 -- touches"; an operation that was lost before the call touches it neither way
@@ -52,7 +52,7 @@ pub data Reaches (r : Register) : Acknowledged → Touch → Type 0 where
 -- "A program depends on a waiting operation if it issued it, or ..": asked of an operation that waits, or waited until it was
 -- discarded
 pub data Depends (r : Register) (p : ℕ) (a : Acknowledged) : Type 0 where
-  issuer : a .loss .program ≡ p → Depends r p a
+  issuer : a .recorded .program ≡ p → Depends r p a
   caller : {t : Touch} → List·Memᴰ t (r .touches) → t .program ≡ p → Reaches r a t → Depends r p a
 
 -- discarded at a time that is after every renewal of a program

@@ -4,8 +4,8 @@ use mathlib.Core.List.{List, [], _∷_, _++_, map}
 use mathlib.Core.Bool.{Bool, true, false, not, _||_, cond}
 use lib.ListN.{length}
 use lib.Dec.{eqb}
-use Rattle.records.specs.Operation.{Operation, Record}
-use Rattle.search.specs.Volume.{Volume}
+use Rattle.record.specs.Operation.{Operation, Record}
+use Rattle.volume_tree.specs.Volume.{Volume}
 use Rattle.log.specs.Order.{needed}
 use Rattle.session.specs.Call.{Call, Answer}
 use Rattle.session.specs.Effect.{Effect, note, issue, send, discard, take, renew, effectsOf}
@@ -19,7 +19,7 @@ pub data Fate : Type 0 where
 
 -- an acknowledged operation, with the time of its issue; a time is the number of effects before
 pub record Acknowledged : Type 0 where
-  pub loss : Record
+  pub recorded : Record
   pub issued : ℕ
   pub fate : Fate
 
@@ -40,24 +40,24 @@ pub record Register : Type 0 where
   pub operations : List Acknowledged
   pub touches : List Touch
   pub renewals : List Renewal
-  pub clock : ℕ
+  pub happened : ℕ
 
 -- as an accepted mount leaves it
-abbrev pub opened : Volume → Register
-opened v = record { mounted = v; operations = []; touches = []; renewals = []; clock = 0 }
+abbrev pub begun : Volume → Register
+begun v = record { mounted = v; operations = []; touches = []; renewals = []; happened = 0 }
 
 -- with other operations, with one more call of a program, with one more renewal, and an effect later
 abbrev pub withOperations : List Acknowledged → Register → Register
-withOperations l r = record { mounted = r .mounted; operations = l; touches = r .touches; renewals = r .renewals; clock = r .clock }
+withOperations l r = record { mounted = r .mounted; operations = l; touches = r .touches; renewals = r .renewals; happened = r .happened }
 
 abbrev pub withTouch : Touch → Register → Register
-withTouch t r = record { mounted = r .mounted; operations = r .operations; touches = r .touches ++ (t ∷ []); renewals = r .renewals; clock = r .clock }
+withTouch t r = record { mounted = r .mounted; operations = r .operations; touches = r .touches ++ (t ∷ []); renewals = r .renewals; happened = r .happened }
 
 abbrev pub withRenewal : Renewal → Register → Register
-withRenewal n r = record { mounted = r .mounted; operations = r .operations; touches = r .touches; renewals = r .renewals ++ (n ∷ []); clock = r .clock }
+withRenewal n r = record { mounted = r .mounted; operations = r .operations; touches = r .touches; renewals = r .renewals ++ (n ∷ []); happened = r .happened }
 
 abbrev pub later : Register → Register
-later r = record { mounted = r .mounted; operations = r .operations; touches = r .touches; renewals = r .renewals; clock = r .clock + 1 }
+later r = record { mounted = r .mounted; operations = r .operations; touches = r .touches; renewals = r .renewals; happened = r .happened + 1 }
 
 abbrev pub isWaiting : Acknowledged → Bool
 isWaiting a = waits (a .fate)
@@ -80,7 +80,7 @@ isLost a = not (isWaiting a || isSent a)
 
 unfoldable pub chosen : (Acknowledged → Bool) → List Acknowledged → List Record
 chosen f [] = []
-chosen f (a ∷ l) = cond (f a) (a .loss ∷ chosen f l) (chosen f l)
+chosen f (a ∷ l) = cond (f a) (a .recorded ∷ chosen f l) (chosen f l)
 
 -- the records of the sent, the waiting and the lost ones, in issue order
 abbrev pub sentIn : Register → List Record
@@ -101,11 +101,11 @@ abbrev pub neededFor : ℕ → Register → List Record
 neededFor o r = needed o (waitingIn r)
 
 abbrev pub fated : Fate → Acknowledged → Acknowledged
-fated f a = record { loss = a .loss; issued = a .issued; fate = f }
+fated f a = record { recorded = a .recorded; issued = a .issued; fate = f }
 
 -- the operation of a number is sent
 abbrev pub sending : ℕ → Acknowledged → Acknowledged
-sending q a = cond (eqb (a .loss .sequence) q) (fated sent a) a
+sending q a = cond (eqb (a .recorded .sequence) q) (fated sent a) a
 
 -- all waiting ones are lost
 abbrev pub losing : ℕ → Acknowledged → Acknowledged
@@ -113,17 +113,17 @@ losing time a = cond (isWaiting a) (fated (lost time) a) a
 
 -- the next operation, "waiting, numbered on from 1"
 abbrev pub acknowledged : ℕ → Operation → Register → Acknowledged
-acknowledged p o r = record { loss = record { sequence = length (r .operations) + 1; program = p; operation = o }; issued = r .clock; fate = waiting }
+acknowledged p o r = record { recorded = record { sequence = length (r .operations) + 1; program = p; operation = o }; issued = r .happened; fate = waiting }
 
 -- the register after an effect: "An accepted change or forder adds its operation, waiting"; "An accepted push sends its operation, an
 -- accepted fsync the d it needs"; "A cut .. makes all waiting ones lost"; the rest is history
 unfoldable pub happen : Effect → Register → Register
-happen (note p ops) r = later (withTouch (record { program = p; touched = ops; time = r .clock }) r)
+happen (note p ops) r = later (withTouch (record { program = p; touched = ops; time = r .happened }) r)
 happen (issue p o) r = later (withOperations (r .operations ++ (acknowledged p o r ∷ [])) r)
 happen (send q) r = later (withOperations (map (sending q) (r .operations)) r)
-happen discard r = later (withOperations (map (losing (r .clock)) (r .operations)) r)
+happen discard r = later (withOperations (map (losing (r .happened)) (r .operations)) r)
 happen (take p) r = later r
-happen (renew p) r = later (withRenewal (record { program = p; time = r .clock }) r)
+happen (renew p) r = later (withRenewal (record { program = p; time = r .happened }) r)
 
 unfoldable pub happenAll : List Effect → Register → Register
 happenAll [] r = r

@@ -5,9 +5,9 @@ use mathlib.Core.List.{List, [], _∷_, _++_, List·Memᴰ}
 use mathlib.Core.Bool.{Bool, true, false}
 use mathlib.Core.Option.{some}
 use lib.ListN.{length}
-use Rattle.records.specs.Operation.{Operation, Record, recordOf}
-use Rattle.entry.specs.Entry.{Entry, isFile, isDirectory}
-use Rattle.search.specs.Volume.{Volume, entryAt, search, hasChildren}
+use Rattle.record.specs.Operation.{Operation, Record, recordOf}
+use Rattle.volume_entry.specs.Entry.{Entry, isFile, isDirectory}
+use Rattle.volume_tree.specs.Volume.{Volume, entryAt, search, hasChildren}
 use Rattle.session.specs.Call.{Geometry, Call, removeFile, removeDirectory}
 use Rattle.register.specs.Replay.{replay}
 use Rattle.register.specs.Register.{Register, Acknowledged, sentIn, viewOf}
@@ -42,9 +42,9 @@ pub record Removed (g : Geometry) (v : Volume) (r : Run) (kind : Entry → Bool)
   -- "Kind 3 stays in the record"
   pub removal : Acknowledged
   pub added : next g (m .call) (m .before) .register .operations ≡ m .before .register .operations ++ (removal ∷ [])
-  pub logged : removal .loss ≡ recordOf (length (m .before .register .operations) + 1) program (Operation.remove object parent name)
+  pub logged : removal .recorded ≡ recordOf (length (m .before .register .operations) + 1) program (Operation.remove object parent name)
   -- and if it was sent, whenever that was, it met the same kind on the server
-  pub sent : SentAt (r .last .register) (removal .loss .sequence) → OnServer kind v (r .last .register) (removal .loss) object
+  pub sent : SentAt (r .last .register) (removal .recorded .sequence) → OnServer kind v (r .last .register) (removal .recorded) object
 
 -- after a list of calls on what an accepted mount of the volume v left
 pub record Removals (g : Geometry) (v : Volume) (r : Run) : Type 0 where

@@ -5,12 +5,12 @@ use mathlib.Core.Path.{_≡_}
 use mathlib.Core.List.{List, [], _∷_, _++_, map, List·Memᴰ}
 use mathlib.Core.Bool.{Bool, _&&_}
 use mathlib.Core.Option.{some}
-use Rattle.records.specs.Operation.{Record}
-use Rattle.search.specs.Volume.{Volume}
-use Rattle.search.specs.Stored.{decodeVolume}
+use Rattle.record.specs.Operation.{Record}
+use Rattle.volume_tree.specs.Volume.{Volume}
+use Rattle.volume_tree.specs.Stored.{decodeVolume}
 use Rattle.session.specs.Call.{Geometry, Buffers, Call, push, cut, Answer}
 use Rattle.session.specs.Step.{step, mount}
-use Rattle.register.specs.Register.{Register, opened, feed, Acknowledged, isSent, isWaiting, chosen}
+use Rattle.register.specs.Register.{Register, begun, feed, Acknowledged, isSent, isWaiting, chosen}
 use Rattle.register.specs.History.{Is}
 
 -- the three buffers and the register between two calls
@@ -47,7 +47,7 @@ pub record Mounted (g : Geometry) (s : Buffers) (v : Volume) : Type 0 where
   pub server : decodeVolume (g .objects) (g .blocks) (mount g s .leaves .server) ≡ some v
 
 abbrev pub play : Geometry → Buffers → Volume → List Call → Run
-play g s v cs = run g cs (record { buffers = mount g s .leaves; register = opened v })
+play g s v cs = run g cs (record { buffers = mount g s .leaves; register = begun v })
 
 -- every call of a run is accepted
 abbrev pub AllAccepted : Run → Type 0
@@ -55,10 +55,10 @@ AllAccepted r = (m : Moment) → List·Memᴰ m (r .moments) → m .answer .retu
 
 -- pushes of the members that wait, in issue order, and then a cut; a set is told by the members' numbers
 abbrev pub instead : (ℕ → Bool) → Register → List Call
-instead set r = map (λ (q : Record). push (q .sequence)) (chosen (λ a. set (a .loss .sequence) && isWaiting a) (r .operations)) ++ (cut ∷ [])
+instead set r = map (λ (q : Record). push (q .sequence)) (chosen (λ a. set (a .recorded .sequence) && isWaiting a) (r .operations)) ++ (cut ∷ [])
 
 -- ""Could have been sent": in place of the list's last call, pushes of the members unsent before it, in issue order, and then a cut
 -- would all be accepted and leave just that set sent": the state is the one before the last call
 pub record CouldHaveBeenSent (g : Geometry) (s : State) (set : ℕ → Bool) : Type 0 where
   pub accepted : AllAccepted (run g (instead set (s .register)) s)
-  pub just : (a : Acknowledged) → Is a (run g (instead set (s .register)) s .last .register) → isSent a ≡ set (a .loss .sequence)
+  pub just : (a : Acknowledged) → Is a (run g (instead set (s .register)) s .last .register) → isSent a ≡ set (a .recorded .sequence)

@@ -6,10 +6,10 @@ use mathlib.Core.Bool.{true}
 use mathlib.Core.Option.{none, some}
 use lib.ListN.{length}
 use Rattle.names.specs.Name.{sameName}
-use Rattle.records.specs.Operation.{Operation, Record, recordOf}
-use Rattle.entry.specs.Entry.{nameOf}
-use Rattle.search.specs.Volume.{Volume, entryAt, isChild, search}
-use Rattle.applies.specs.Spelling.{Respelled}
+use Rattle.record.specs.Operation.{Operation, Record, recordOf}
+use Rattle.volume_entry.specs.Entry.{nameOf}
+use Rattle.volume_tree.specs.Volume.{Volume, entryAt, isChild, search}
+use Rattle.volume_apply.specs.Spelling.{Respelled}
 use Rattle.session.specs.Call.{Geometry, rename}
 use Rattle.session.specs.Model.{Model}
 use Rattle.session.specs.Step.{decodeModel}
@@ -46,13 +46,13 @@ pub record NewSpelling (g : Geometry) (m : Moment) (w : SameNames m) : Type 0 wh
   pub added : next g (m .call) (m .before) .register .operations ≡ m .before .register .operations ++ (renaming ∷ [])
   pub waits : renaming .fate ≡ waiting
   pub logged :
-      renaming .loss
+      renaming .recorded
       ≡ recordOf (length (m .before .register .operations) + 1) (w .program) (Operation.rename object (w .parent) (w .parent) none (w .name) (w .secondName))
   -- it "displaces nothing and changes the stored spelling", and "only the stored spelling itself changes nothing"
   pub view : Respelled (viewOf (m .before .register)) (viewOf (next g (m .call) (m .before) .register)) object (w .secondName)
 
 -- after a list of calls on what an accepted mount of the volume v left
-pub record LetterCase (g : Geometry) (v : Volume) (r : Run) : Type 0 where
+pub record Spellings (g : Geometry) (v : Volume) (r : Run) : Type 0 where
   -- no two names of one directory are the same, neither on the server nor in the view
   pub apart : (x : Model) → decodeModel g (r .last .buffers) ≡ some x → (TwoAlike (x .server) → ⊥) × (TwoAlike (x .view) → ⊥)
   -- a rename of the list that only changes the case does that and no more

@@ -5,14 +5,14 @@ use mathlib.Core.List.{List, [], _∷_, _++_, map, List·Memᴰ}
 use mathlib.Core.Bool.{Bool, _&&_, cond}
 use lib.ListN.{take, getD}
 use lib.Dec.{eqb}
-use Rattle.records.specs.Fields.{encode}
+use Rattle.record.specs.Fields.{encode}
 use Rattle.session.specs.Call.{Call, lookup, list, stat, read, createFile, makeDirectory, removeFile, removeDirectory, rename, write, setLength, forder, push, fsync, cut, take as takeLoss, renew, Answer}
 use Rattle.register.specs.Register.{Register, Acknowledged, isLost, chosen}
 use Rattle.register.specs.Run.{Moment}
 
 -- a lost operation of a program, and the records of all of them, in issue order
 abbrev pub lostBy : ℕ → Acknowledged → Bool
-lostBy p a = isLost a && eqb (a .loss .program) p
+lostBy p a = isLost a && eqb (a .recorded .program) p
 
 abbrev pub lostRecords : ℕ → Register → List (List ℕ)
 lostRecords p r = map encode (chosen (lostBy p) (r .operations))

@@ -49,7 +49,8 @@ taken = 10
 abbrev pub notEmpty : ℕ
 notEmpty = 11
 
--- "write of 0 bytes, across blocks or the end of file, beyond length or b; length over b × 1,024; read offset beyond length"
+-- "write of 0 bytes, across blocks .., beyond length or b; length over b × 1,024; read offset beyond length": across the end of file a
+-- write is two operations (document 02, K1)
 abbrev pub badRange : ℕ
 badRange = 12
 

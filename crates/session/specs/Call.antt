@@ -4,8 +4,9 @@ use Prim.Native.Nat.{ℕ}
 use mathlib.Core.List.{List, []}
 use mathlib.Core.Bool.{Bool, _&&_}
 use lib.ListN.{length, replicate}
-use lib.Dec.{leb, eqb}
-use Rattle.search.specs.Stored.{volumeBytes}
+use lib.Dec.{eqb}
+use Rattle.buffer.specs.Geometry.{goodObjects, goodBlocks, goodCapacity}
+use Rattle.volume_tree.specs.Stored.{volumeBytes}
 use Rattle.log.specs.Stored.{logBytes}
 
 -- "A caller gives n objects .., b blocks a file .. and m log slots"
@@ -114,9 +115,7 @@ refusal n c = answer n (replicate (resultCount c) 0) (ownBuffer c)
 
 -- "n objects (2..256), b blocks a file (1..64) and m log slots (1..1,024)"
 unfoldable pub inRange : Geometry → Bool
-inRange g =
-    (leb 2 (g .objects) && leb (g .objects) 256)
-    && ((leb 1 (g .blocks) && leb (g .blocks) 64) && (leb 1 (g .capacity) && leb (g .capacity) 1024))
+inRange g = goodObjects (g .objects) && (goodBlocks (g .blocks) && goodCapacity (g .capacity))
 
 unfoldable pub serverFits : Geometry → List ℕ → Bool
 serverFits g s = eqb (length s) (volumeBytes (g .objects) (g .blocks))

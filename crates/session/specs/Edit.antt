@@ -5,12 +5,13 @@ use mathlib.Core.Bool.{Bool, false, not, _&&_, _||_}
 use mathlib.Core.Option.{Option, none, some}
 use lib.ListN.{length}
 use lib.Dec.{ltb, eqb}
+use Rattle.buffer.specs.Geometry.{blockBytes}
 use Rattle.returned.specs.Returned
 use Rattle.names.specs.Name.{nameTextOf}
-use Rattle.records.specs.Fields.{different, objectsOf}
-use Rattle.entry.specs.Entry.{Entry, isUsed, isFile, isDirectory, kindNumber, contentsOf}
-use Rattle.search.specs.Volume.{Volume, entryAt, search, hasChildren}
-use Rattle.applies.specs.Apply.{isAbsent}
+use Rattle.record.specs.Fields.{different, objectsOf}
+use Rattle.volume_entry.specs.Entry.{Entry, isUsed, isFile, isDirectory, kindNumber, contentsOf}
+use Rattle.volume_tree.specs.Volume.{Volume, entryAt, search, hasChildren}
+use Rattle.volume_apply.specs.Apply.{isAbsent}
 use Rattle.log.specs.Order.{any}
 use Rattle.session.specs.Call.{Geometry, Call, rename, write, setLength, forder, Answer, answer}
 use Rattle.session.specs.Issue.{displaced, issues}
@@ -85,7 +86,7 @@ renameOf g p d n e k x = changed g (rename p d n e k) p (renameRows (x .view) d 
 
 -- "write of 0 bytes, across blocks .., beyond length or b"; the end of the file is no bound within the block (document 02, K1)
 abbrev pub badRange : ℕ → ℕ → ℕ → ℕ → Bool
-badRange b len f n = (eqb n 0 || ltb 1024 (f % 1024 + n)) || (ltb len f || ltb (1024 * b) (f + n))
+badRange b len f n = (eqb n 0 || ltb blockBytes (f % blockBytes + n)) || (ltb len f || ltb (blockBytes * b) (f + n))
 
 -- a file by its number: 7, 8, 9
 abbrev pub fileRows : Volume → ℕ → List Row → List Row
@@ -100,7 +101,7 @@ writeOf g p o f s x = changed g (write p o f s) p (writeRows (g .blocks) (x .vie
 
 -- "length over b × 1,024"
 abbrev pub lengthRows : ℕ → Volume → ℕ → ℕ → List Row
-lengthRows b v o f = fileRows v o (row Returned.badRange (ltb (1024 * b) f) ∷ [])
+lengthRows b v o f = fileRows v o (row Returned.badRange (ltb (blockBytes * b) f) ∷ [])
 
 unfoldable pub setLengthOf : Geometry → ℕ → ℕ → ℕ → Model → Answer
 setLengthOf g p o f x = changed g (setLength p o f) p (lengthRows (g .blocks) (x .view) o f) x

@@ -8,10 +8,10 @@ use lib.ListN
 use lib.ListN.{getD}
 use lib.Dec.{eqb}
 use Rattle.returned.specs.Returned
-use Rattle.records.specs.Operation.{Operation, Record, operands}
-use Rattle.search.specs.Volume.{Volume}
-use Rattle.applies.specs.Apply.{apply}
-use Rattle.lookup.specs.Lookup.{lookupOperands}
+use Rattle.record.specs.Operation.{Operation, Record, operands}
+use Rattle.volume_tree.specs.Volume.{Volume}
+use Rattle.volume_apply.specs.Apply.{apply}
+use Rattle.volume_lookup.specs.Lookup.{lookupOperands}
 use Rattle.log.specs.Order.{needed}
 use Rattle.log.specs.Change
 use Rattle.session.specs.Call.{Call, lookup, list, stat, read, createFile, makeDirectory, removeFile, removeDirectory, rename, write, setLength, forder, push, fsync, cut, Answer}

@@ -6,10 +6,10 @@ use mathlib.Core.Option.{Option, none, some}
 use lib.ListN
 use lib.ListN.{length}
 use lib.Dec.{eqb}
-use Rattle.records.specs.Operation.{Operation}
-use Rattle.records.specs.Fields.{objectsOf}
-use Rattle.entry.specs.Entry.{contentsOf}
-use Rattle.search.specs.Volume.{Volume, entryAt, search}
+use Rattle.record.specs.Operation.{Operation}
+use Rattle.record.specs.Fields.{objectsOf}
+use Rattle.volume_entry.specs.Entry.{contentsOf}
+use Rattle.volume_tree.specs.Volume.{Volume, entryAt, search}
 use Rattle.session.specs.Call.{Call, lookup, list, stat, read, createFile, makeDirectory, removeFile, removeDirectory, rename, write, setLength, forder, push, fsync, cut, take, renew}
 
 -- the object that a rename displaces: what its second name leads to, unless that is the object itself

@@ -3,7 +3,7 @@ pub mod Refusal
 pub mod Model
 pub mod Question
 pub mod Issue
-pub mod WriteLaws
+pub mod Laws
 pub mod Edit
 pub mod Effect
 pub mod Send
@@ -11,18 +11,3 @@ pub mod Step
 pub mod Code
 pub mod Removal
 pub mod Cases
-pub mod IssueLaws
-pub mod PossibleLaws
-pub mod RefusalLaws
-pub mod IssuingLaws
-pub mod EditLaws
-pub mod EffectLaws
-pub mod PerformLaws
-pub mod ReadyLaws
-pub mod CallLaws
-pub mod StepLaws
-pub mod GeometryLaws
-pub mod AnswerLaws
-pub mod TableLaws
-pub mod OutcomeLaws
-pub mod RemovalLaws

@@ -7,8 +7,8 @@ use lib.Dec.{ltb, eqb}
 use Rattle.returned.specs.Returned
 use Rattle.names.specs.declared.NameText.{NameText}
 use Rattle.names.specs.declared.NameText.the-variants.{Fine, Bad, Long}
-use Rattle.entry.specs.Entry.{isUsed}
-use Rattle.search.specs.Volume.{Volume, entryAt}
+use Rattle.volume_entry.specs.Entry.{isUsed}
+use Rattle.volume_tree.specs.Volume.{Volume, entryAt}
 use Rattle.log.specs.Programs.{holds}
 use Rattle.log.specs.Slot.{Log}
 use Rattle.session.specs.Call.{Geometry, Call, Answer, refusal}

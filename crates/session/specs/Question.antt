@@ -2,8 +2,8 @@
 -- ask.
 use Prim.Native.Nat.{ℕ}
 use mathlib.Core.List.{List, []}
-use Rattle.lookup.specs.Lookup.{lookupAnswer, reachedNumber, reachedResults}
-use Rattle.questions.specs.Answer.{listAnswer, listLeaves, listNumber, listResults, statAnswer, statNumber, statResults, readAnswer, readLeaves, readNumber, readResults}
+use Rattle.volume_lookup.specs.Lookup.{lookupAnswer, reachedNumber, reachedResults}
+use Rattle.volume_questions.specs.Answer.{listAnswer, listLeaves, listNumber, listResults, statAnswer, statNumber, statResults, readAnswer, readLeaves, readNumber, readResults}
 use Rattle.session.specs.Call.{Call, lookup, list, stat, read, Answer, answer}
 use Rattle.session.specs.Model.{Model, unless, programRows}
 

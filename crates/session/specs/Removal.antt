@@ -7,8 +7,8 @@ use mathlib.Core.Option.{some}
 use lib.Dec.{ltb}
 use Rattle.names.specs.declared.NameText.the-variants.{Fine}
 use Rattle.names.specs.Name.{nameTextOf}
-use Rattle.entry.specs.Entry.{Entry, isDirectory}
-use Rattle.search.specs.Volume.{entryAt, search, hasChildren}
+use Rattle.volume_entry.specs.Entry.{Entry, isDirectory}
+use Rattle.volume_tree.specs.Volume.{entryAt, search, hasChildren}
 use Rattle.session.specs.Model.{Model, isMarked, outside}
 
 -- no number below 9 refuses a remove, and its name leads to an object; the log may be full and the numbers spent
@@ -20,8 +20,8 @@ pub record Leads (x : Model) (p d : ℕ) (n : List ℕ) (o : ℕ) : Type 0 where
   pub parent : isDirectory (entryAt (x .view) d) ≡ true
   pub found : search (x .view) d n ≡ some o
 
--- the object that a remove took: of the kind that the call takes, and without children
-pub record Taken (x : Model) (takes : Entry → Bool) (d : ℕ) (n : List ℕ) : Type 0 where
+-- an object that a remove may take: of the kind that the call takes, and without children
+pub record Removable (x : Model) (takes : Entry → Bool) (d : ℕ) (n : List ℕ) : Type 0 where
   pub object : ℕ
   pub found : search (x .view) d n ≡ some object
   pub kind : takes (entryAt (x .view) object) ≡ true

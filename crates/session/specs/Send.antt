@@ -6,12 +6,13 @@ use mathlib.Core.Option.{Option, none, some}
 use lib.ListN.{length}
 use lib.ListN
 use lib.Dec.{leb, ltb}
+use Rattle.log.specs.Stored.{recordBytes}
 use Rattle.returned.specs.Returned
-use Rattle.records.specs.Operation.{Record}
-use Rattle.records.specs.Fields.{encode}
+use Rattle.record.specs.Operation.{Record}
+use Rattle.record.specs.Fields.{encode}
 use Rattle.buffer.specs.Patch.{patch}
-use Rattle.search.specs.Volume.{Volume}
-use Rattle.applies.specs.Apply.{applies}
+use Rattle.volume_tree.specs.Volume.{Volume}
+use Rattle.volume_apply.specs.Apply.{applies}
 use Rattle.log.specs.Slot.{Log}
 use Rattle.log.specs.Order.{needed, preceded}
 use Rattle.log.specs.Change.{waitingOf, waitingAt, earliest, isLossOf}
@@ -35,8 +36,8 @@ pushOf q x =
 
 -- "An fsync whose bad operation is among the first k gives 2 .. keeps the sends before it and reports them"; "If k is at least d it
 -- sends d"; "17 Link lost: fsync with k below d" "sends the first k, then cuts, and reports k"
-abbrev pub synced : ℕ → List Record → Volume → Answer
-synced k need v =
+abbrev pub syncAnswer : ℕ → List Record → Volume → Answer
+syncAnswer k need v =
     let first = ListN.take k need in
     cond (ltb (applying first v) (length first)) (answer Returned.damaged (applying first v ∷ []) [])
     (cond (leb (length need) k) (answer Returned.accepted (length need ∷ []) []) (answer Returned.linkLost (k ∷ []) []))
@@ -49,7 +50,7 @@ unfoldable pub fsyncOf : ℕ → ℕ → ℕ → Model → Answer
 fsyncOf p o k x =
     unless (fsync p o k)
     (syncRows p o (x .view) (x .log))
-    (synced k (needed o (waitingOf (x .log .slots))) (x .server))
+    (syncAnswer k (needed o (waitingOf (x .log .slots))) (x .server))
 
 -- the bytes of a loss
 abbrev pub lossBytes : Option Record → List ℕ
@@ -65,7 +66,7 @@ noLoss p x = ofRecord true (earliest (isLossOf p) (x .log .slots)) (λ r. false)
 unfoldable pub takeOf : ℕ → List ℕ → Model → Answer
 takeOf p own x =
     let s = lossBytes (earliest (isLossOf p) (x .log .slots)) in
-    unless (take p own) (badProgram p ∷ row Returned.none (noLoss p x) ∷ row Returned.shortBuffer (ltb (length own) 1040) ∷ [])
+    unless (take p own) (badProgram p ∷ row Returned.none (noLoss p x) ∷ row Returned.shortBuffer (ltb (length own) recordBytes) ∷ [])
     (answer Returned.accepted (length s ∷ []) (patch own 0 s))
 
 -- "renew before the program took all losses of its own operations"

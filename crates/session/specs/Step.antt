@@ -4,10 +4,11 @@ use mathlib.Core.Path.{_≡_}
 use mathlib.Core.List.{List, []}
 use mathlib.Core.Bool.{true, _&&_, cond}
 use mathlib.Core.Option.{Option, none, some}
+use Rattle.buffer.specs.Decoded.{isSome}
 use Rattle.returned.specs.Returned
-use Rattle.entry.specs.Entry.{isFile, isDirectory}
-use Rattle.search.specs.Volume.{Volume, formatted}
-use Rattle.search.specs.Stored.{encodeVolume, decodeVolume, isSome}
+use Rattle.volume_entry.specs.Entry.{isFile, isDirectory}
+use Rattle.volume_tree.specs.Volume.{Volume, formatted}
+use Rattle.volume_tree.specs.Stored.{encodeVolume, decodeVolume}
 use Rattle.log.specs.Slot.{Log, emptyLog}
 use Rattle.log.specs.Change.{waitingOf}
 use Rattle.log.specs.Stored.{encodeLog, decodeLog}

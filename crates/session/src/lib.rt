@@ -1,1 +1,1 @@
-// The calls (document 01, "Calls" and "Returned numbers"): so far their definitions, in specs/.
+// The calls (document 01, "Calls" and "Returned numbers"): definitions and laws, in specs/.

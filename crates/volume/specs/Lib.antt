@@ -1,3 +1,1 @@
-pub mod AppliedLaws
-pub mod KindLaws
-pub mod RenameLaws
+pub mod Laws

@@ -4,32 +4,34 @@ ghost use mathlib.Core.Path.{_≡_};
 ghost use mathlib.Core.Bool.{true};
 ghost use Prim.Native.Nat.{_≤_, _<_};
 ghost use lib.ListN.{length, set};
-ghost use Rattle.records.specs.Fields.{displacedIf};
-ghost use Rattle.entry.specs.Entry.{isUsed, renamed};
-ghost use Rattle.applies.specs.Apply.{withoutDisplaced, applies, apply};
-ghost use Rattle.search.specs.Stored.{encodeVolume, readVolume};
-ghost use Rattle.search.specs.Code.Lent.{Formed, entryIn};
-ghost use Rattle.applies.specs.Code.Held.{Fitting, operationIn, Displaces};
+ghost use Rattle.names.specs.Name.{longestName};
+ghost use Rattle.record.specs.Fields.{displacedIf};
+ghost use Rattle.volume_entry.specs.Entry.{isUsed, renamed};
+ghost use Rattle.volume_apply.specs.Apply.{withoutDisplaced, applies, apply};
+ghost use Rattle.volume_tree.specs.Stored.{encodeVolume, readVolume};
+ghost use Rattle.volume_tree.specs.Code.Lent.{Formed, entryIn};
+ghost use Rattle.volume_applies.specs.Code.Held.{Fitting, operationIn, Displaces};
 use buffer::span::stretch_of;
-use entry::DIRECTORY;
-use entry::FILE;
-use reader::Objects;
-use reader::Whole;
-use records::kind::Kind;
-use records::valid::stands;
-use update::write::append_file;
-use update::write::free_entry;
-use update::write::make_entry;
-use update::write::overwrite_file;
-use update::write::rename_entry;
-use update::write::set_file_length;
+use record::kind::Kind;
+use record::valid::stands;
+use record_reader::Objects;
+use record_reader::Whole;
+use volume_entry::DIRECTORY;
+use volume_entry::FILE;
+use volume_write::write::append_file;
+use volume_write::write::free_entry;
+use volume_write::write::make_entry;
+use volume_write::write::overwrite_file;
+use volume_write::write::rename_entry;
+use volume_write::write::set_file_length;
 
 // What a rename leaves: the displaced object gone, and the object under its second name and parent.
 fn apply_rename(s: &mut [u8], n: usize, b: usize, objects: Objects, displacing: bool, name: &[u8])
     requires { ⌜ Formed n b (now s) ⌝ }
-    requires { ⌜ (objects .object < n) × (isUsed (entryIn n b (now s) (objects .object)) ≡ true) × (length (now name) ≤ 60) ⌝ }
+    requires { ⌜ (objects .object < n) × (isUsed (entryIn n b (now s) (objects .object)) ≡ true) × (length (now name) ≤ longestName) ⌝ }
     requires { ⌜ Displaces n b (readVolume n b (now s)) (objects .object) (displacedIf displacing (objects .displaced)) ⌝ }
-    ensures { λ r. ⌜ now (s .exit) ≡ encodeVolume b (set (withoutDisplaced (readVolume n b (now (s .entry))) (displacedIf displacing (objects .displaced))) (objects .object) (renamed (entryIn n b (now (s .entry)) (objects .object)) (now (name .entry)) (objects .second))) ⌝ }
+    ensures { λ r. ⌜ now (s .exit)
+        ≡ encodeVolume b (set (withoutDisplaced (readVolume n b (now (s .entry))) (displacedIf displacing (objects .displaced))) (objects .object) (renamed (entryIn n b (now (s .entry)) (objects .object)) (now (name .entry)) (objects .second))) ⌝ }
 {
     if displacing {
         free_entry(s, n, b, objects.displaced);

@@ -1,2 +1,2 @@
 pub mod Loss
-pub mod LossLaws
+pub mod Laws

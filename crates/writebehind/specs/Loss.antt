@@ -2,10 +2,10 @@
 use Prim.Native.Nat.{ℕ}
 use mathlib.Core.Option.{Option, none, some}
 use Rattle.returned.specs.Returned
-use Rattle.records.specs.Kind.{codeOf}
-use Rattle.records.specs.Operation.{Record}
-use Rattle.reader.specs.declared.Whole.{Whole}
-use Rattle.reader.specs.Answer.{wholeOf}
+use Rattle.record.specs.Kind.{codeOf}
+use Rattle.record.specs.Operation.{Record}
+use Rattle.record_reader.specs.declared.Whole.{Whole}
+use Rattle.record_reader.specs.Answer.{wholeOf}
 use Rattle.writebehind.specs.declared.loss.Loss.{Loss}
 
 -- "20 Bad record"; "The other results of a refusal are 0"

@@ -3,7 +3,7 @@
 ghost use mathlib.Core.Path.{_≡_};
 ghost use mathlib.Core.List.{[], _∷_};
 ghost use lib.ListN.{drop};
-ghost use Rattle.records.specs.Decode.{decodeRecord};
+ghost use Rattle.record.specs.Decode.{decodeRecord};
 ghost use Rattle.session.specs.Call.{geometry, buffers};
 ghost use Rattle.session.specs.Call;
 ghost use Rattle.session.specs.Step.{given, step, format, formatLeaves, mount};
@@ -23,7 +23,7 @@ pub extern "C" fn wb_format(n: u64, b: u64, m: u64, server: &mut [u8]) -> Code
     ensures returned { λ r. ⌜ r .returned ≡ format (geometry n b m) (now (server .entry)) ⌝ }
     ensures volume { λ r. ⌜ now (server .exit) ≡ formatLeaves (geometry n b m) (now (server .entry)) ⌝ }
 {
-    mounting::format(n as usize, b as usize, m as usize, server)
+    session_mount::format(n as usize, b as usize, m as usize, server)
 }
 
 // "Mount checks the server volume, copies it to the view and begins an empty log".
@@ -36,9 +36,10 @@ pub extern "C" fn wb_mount(
     view: &mut [u8],
     log: &mut [u8],
 ) -> Code
-    ensures { λ r. ⌜ given (r .returned) [] [] (buffers (now (server .entry)) (now (view .exit)) (now (log .exit))) ≡ mount (geometry n b m) (buffers (now (server .entry)) (now (view .entry)) (now (log .entry))) ⌝ }
+    ensures { λ r. ⌜ given (r .returned) [] [] (buffers (now (server .entry)) (now (view .exit)) (now (log .exit)))
+        ≡ mount (geometry n b m) (buffers (now (server .entry)) (now (view .entry)) (now (log .entry))) ⌝ }
 {
-    mounting::mount(n as usize, b as usize, m as usize, server, view, log)
+    session_mount::mount(n as usize, b as usize, m as usize, server, view, log)
 }
 
 // "Lookup alone takes a path and gives an object number."
@@ -53,9 +54,10 @@ pub extern "C" fn wb_lookup(
     program: u64,
     path: &[u8],
 ) -> Value
-    ensures { λ r. ⌜ given (r .returned) (r .value ∷ []) [] (buffers (now (server .entry)) (now (view .entry)) (now (log .exit))) ≡ step (geometry n b m) (Call.lookup program (now (path .entry))) (buffers (now (server .entry)) (now (view .entry)) (now (log .entry))) ⌝ }
+    ensures { λ r. ⌜ given (r .returned) (r .value ∷ []) [] (buffers (now (server .entry)) (now (view .entry)) (now (log .exit)))
+        ≡ step (geometry n b m) (Call.lookup program (now (path .entry))) (buffers (now (server .entry)) (now (view .entry)) (now (log .entry))) ⌝ }
 {
-    asking::path::lookup(
+    session_lookup::lookup(
         n as usize,
         b as usize,
         m as usize,
@@ -80,9 +82,10 @@ pub extern "C" fn wb_list(
     object: u64,
     buffer: &mut [u8],
 ) -> Value
-    ensures { λ r. ⌜ given (r .returned) (r .value ∷ []) (now (buffer .exit)) (buffers (now (server .entry)) (now (view .entry)) (now (log .exit))) ≡ step (geometry n b m) (Call.list program object (now (buffer .entry))) (buffers (now (server .entry)) (now (view .entry)) (now (log .entry))) ⌝ }
+    ensures { λ r. ⌜ given (r .returned) (r .value ∷ []) (now (buffer .exit)) (buffers (now (server .entry)) (now (view .entry)) (now (log .exit)))
+        ≡ step (geometry n b m) (Call.list program object (now (buffer .entry))) (buffers (now (server .entry)) (now (view .entry)) (now (log .entry))) ⌝ }
 {
-    asking::list::list(
+    session_list::list(
         n as usize,
         b as usize,
         m as usize,
@@ -107,9 +110,10 @@ pub extern "C" fn wb_stat(
     program: u64,
     object: u64,
 ) -> Status
-    ensures { λ r. ⌜ given (r .returned) (r .kind ∷ r .length ∷ r .usage ∷ []) [] (buffers (now (server .entry)) (now (view .entry)) (now (log .exit))) ≡ step (geometry n b m) (Call.stat program object) (buffers (now (server .entry)) (now (view .entry)) (now (log .entry))) ⌝ }
+    ensures { λ r. ⌜ given (r .returned) (r .kind ∷ r .length ∷ r .usage ∷ []) [] (buffers (now (server .entry)) (now (view .entry)) (now (log .exit)))
+        ≡ step (geometry n b m) (Call.stat program object) (buffers (now (server .entry)) (now (view .entry)) (now (log .entry))) ⌝ }
 {
-    asking::stat::stat(
+    session_stat::stat(
         n as usize,
         b as usize,
         m as usize,
@@ -135,9 +139,10 @@ pub extern "C" fn wb_read(
     offset: u64,
     buffer: &mut [u8],
 ) -> Value
-    ensures { λ r. ⌜ given (r .returned) (r .value ∷ []) (now (buffer .exit)) (buffers (now (server .entry)) (now (view .entry)) (now (log .exit))) ≡ step (geometry n b m) (Call.read program object offset (now (buffer .entry))) (buffers (now (server .entry)) (now (view .entry)) (now (log .entry))) ⌝ }
+    ensures { λ r. ⌜ given (r .returned) (r .value ∷ []) (now (buffer .exit)) (buffers (now (server .entry)) (now (view .entry)) (now (log .exit)))
+        ≡ step (geometry n b m) (Call.read program object offset (now (buffer .entry))) (buffers (now (server .entry)) (now (view .entry)) (now (log .entry))) ⌝ }
 {
-    asking::read::read(
+    session_read::read(
         n as usize,
         b as usize,
         m as usize,
@@ -165,9 +170,10 @@ pub extern "C" fn wb_create(
     name: &[u8],
     object: u64,
 ) -> Value
-    ensures { λ r. ⌜ given (r .returned) (r .value ∷ []) [] (buffers (now (server .entry)) (now (view .exit)) (now (log .exit))) ≡ step (geometry n b m) (Call.createFile program parent (now (name .entry)) object) (buffers (now (server .entry)) (now (view .entry)) (now (log .entry))) ⌝ }
+    ensures { λ r. ⌜ given (r .returned) (r .value ∷ []) [] (buffers (now (server .entry)) (now (view .exit)) (now (log .exit)))
+        ≡ step (geometry n b m) (Call.createFile program parent (now (name .entry)) object) (buffers (now (server .entry)) (now (view .entry)) (now (log .entry))) ⌝ }
 {
-    naming::make::create(
+    session_make::create(
         n as usize,
         b as usize,
         m as usize,
@@ -195,9 +201,10 @@ pub extern "C" fn wb_mkdir(
     name: &[u8],
     object: u64,
 ) -> Value
-    ensures { λ r. ⌜ given (r .returned) (r .value ∷ []) [] (buffers (now (server .entry)) (now (view .exit)) (now (log .exit))) ≡ step (geometry n b m) (Call.makeDirectory program parent (now (name .entry)) object) (buffers (now (server .entry)) (now (view .entry)) (now (log .entry))) ⌝ }
+    ensures { λ r. ⌜ given (r .returned) (r .value ∷ []) [] (buffers (now (server .entry)) (now (view .exit)) (now (log .exit)))
+        ≡ step (geometry n b m) (Call.makeDirectory program parent (now (name .entry)) object) (buffers (now (server .entry)) (now (view .entry)) (now (log .entry))) ⌝ }
 {
-    naming::make::make_directory(
+    session_make::make_directory(
         n as usize,
         b as usize,
         m as usize,
@@ -224,9 +231,10 @@ pub extern "C" fn wb_remove_file(
     parent: u64,
     name: &[u8],
 ) -> Value
-    ensures { λ r. ⌜ given (r .returned) (r .value ∷ []) [] (buffers (now (server .entry)) (now (view .exit)) (now (log .exit))) ≡ step (geometry n b m) (Call.removeFile program parent (now (name .entry))) (buffers (now (server .entry)) (now (view .entry)) (now (log .entry))) ⌝ }
+    ensures { λ r. ⌜ given (r .returned) (r .value ∷ []) [] (buffers (now (server .entry)) (now (view .exit)) (now (log .exit)))
+        ≡ step (geometry n b m) (Call.removeFile program parent (now (name .entry))) (buffers (now (server .entry)) (now (view .entry)) (now (log .entry))) ⌝ }
 {
-    naming::remove::remove_file(
+    session_remove::remove_file(
         n as usize,
         b as usize,
         m as usize,
@@ -252,9 +260,10 @@ pub extern "C" fn wb_remove_directory(
     parent: u64,
     name: &[u8],
 ) -> Value
-    ensures { λ r. ⌜ given (r .returned) (r .value ∷ []) [] (buffers (now (server .entry)) (now (view .exit)) (now (log .exit))) ≡ step (geometry n b m) (Call.removeDirectory program parent (now (name .entry))) (buffers (now (server .entry)) (now (view .entry)) (now (log .entry))) ⌝ }
+    ensures { λ r. ⌜ given (r .returned) (r .value ∷ []) [] (buffers (now (server .entry)) (now (view .exit)) (now (log .exit)))
+        ≡ step (geometry n b m) (Call.removeDirectory program parent (now (name .entry))) (buffers (now (server .entry)) (now (view .entry)) (now (log .entry))) ⌝ }
 {
-    naming::remove::remove_directory(
+    session_remove::remove_directory(
         n as usize,
         b as usize,
         m as usize,
@@ -282,9 +291,10 @@ pub extern "C" fn wb_rename(
     second_parent: u64,
     second_name: &[u8],
 ) -> Value
-    ensures { λ r. ⌜ given (r .returned) (r .value ∷ []) [] (buffers (now (server .entry)) (now (view .exit)) (now (log .exit))) ≡ step (geometry n b m) (Call.rename program parent (now (name .entry)) «second_parent» (now («second_name» .entry))) (buffers (now (server .entry)) (now (view .entry)) (now (log .entry))) ⌝ }
+    ensures { λ r. ⌜ given (r .returned) (r .value ∷ []) [] (buffers (now (server .entry)) (now (view .exit)) (now (log .exit)))
+        ≡ step (geometry n b m) (Call.rename program parent (now (name .entry)) «second_parent» (now («second_name» .entry))) (buffers (now (server .entry)) (now (view .entry)) (now (log .entry))) ⌝ }
 {
-    naming::rename::rename(
+    session_rename::rename(
         n as usize,
         b as usize,
         m as usize,
@@ -313,9 +323,10 @@ pub extern "C" fn wb_write(
     offset: u64,
     data: &[u8],
 ) -> Value
-    ensures { λ r. ⌜ given (r .returned) (r .value ∷ []) [] (buffers (now (server .entry)) (now (view .exit)) (now (log .exit))) ≡ step (geometry n b m) (Call.write program object offset (now («data» .entry))) (buffers (now (server .entry)) (now (view .entry)) (now (log .entry))) ⌝ }
+    ensures { λ r. ⌜ given (r .returned) (r .value ∷ []) [] (buffers (now (server .entry)) (now (view .exit)) (now (log .exit)))
+        ≡ step (geometry n b m) (Call.write program object offset (now («data» .entry))) (buffers (now (server .entry)) (now (view .entry)) (now (log .entry))) ⌝ }
 {
-    writing::write::write(
+    session_write::write::write(
         n as usize,
         b as usize,
         m as usize,
@@ -342,9 +353,10 @@ pub extern "C" fn wb_setlen(
     object: u64,
     length: u64,
 ) -> Value
-    ensures { λ r. ⌜ given (r .returned) (r .value ∷ []) [] (buffers (now (server .entry)) (now (view .exit)) (now (log .exit))) ≡ step (geometry n b m) (Call.setLength program object length) (buffers (now (server .entry)) (now (view .entry)) (now (log .entry))) ⌝ }
+    ensures { λ r. ⌜ given (r .returned) (r .value ∷ []) [] (buffers (now (server .entry)) (now (view .exit)) (now (log .exit)))
+        ≡ step (geometry n b m) (Call.setLength program object length) (buffers (now (server .entry)) (now (view .entry)) (now (log .entry))) ⌝ }
 {
-    writing::length::set_length(
+    session_length::set_length(
         n as usize,
         b as usize,
         m as usize,
@@ -369,9 +381,10 @@ pub extern "C" fn wb_forder(
     program: u64,
     list: &[u8],
 ) -> Value
-    ensures { λ r. ⌜ given (r .returned) (r .value ∷ []) [] (buffers (now (server .entry)) (now (view .entry)) (now (log .exit))) ≡ step (geometry n b m) (Call.forder program (now (list .entry))) (buffers (now (server .entry)) (now (view .entry)) (now (log .entry))) ⌝ }
+    ensures { λ r. ⌜ given (r .returned) (r .value ∷ []) [] (buffers (now (server .entry)) (now (view .entry)) (now (log .exit)))
+        ≡ step (geometry n b m) (Call.forder program (now (list .entry))) (buffers (now (server .entry)) (now (view .entry)) (now (log .entry))) ⌝ }
 {
-    writing::forder::forder(
+    session_forder::forder(
         n as usize,
         b as usize,
         m as usize,
@@ -394,9 +407,10 @@ pub extern "C" fn wb_push(
     log: &mut [u8],
     sequence: u64,
 ) -> Code
-    ensures { λ r. ⌜ given (r .returned) [] [] (buffers (now (server .exit)) (now (view .entry)) (now (log .exit))) ≡ step (geometry n b m) (Call.push sequence) (buffers (now (server .entry)) (now (view .entry)) (now (log .entry))) ⌝ }
+    ensures { λ r. ⌜ given (r .returned) [] [] (buffers (now (server .exit)) (now (view .entry)) (now (log .exit)))
+        ≡ step (geometry n b m) (Call.push sequence) (buffers (now (server .entry)) (now (view .entry)) (now (log .entry))) ⌝ }
 {
-    transfer::push::push(
+    session_push::push(
         n as usize,
         b as usize,
         m as usize,
@@ -420,9 +434,10 @@ pub extern "C" fn wb_fsync(
     object: u64,
     sends: u64,
 ) -> Value
-    ensures { λ r. ⌜ given (r .returned) (r .value ∷ []) [] (buffers (now (server .exit)) (now (view .exit)) (now (log .exit))) ≡ step (geometry n b m) (Call.fsync program object sends) (buffers (now (server .entry)) (now (view .entry)) (now (log .entry))) ⌝ }
+    ensures { λ r. ⌜ given (r .returned) (r .value ∷ []) [] (buffers (now (server .exit)) (now (view .exit)) (now (log .exit)))
+        ≡ step (geometry n b m) (Call.fsync program object sends) (buffers (now (server .entry)) (now (view .entry)) (now (log .entry))) ⌝ }
 {
-    transfer::sync::fsync(
+    session_fsync::fsync(
         n as usize,
         b as usize,
         m as usize,
@@ -445,9 +460,10 @@ pub extern "C" fn wb_cut(
     view: &mut [u8],
     log: &mut [u8],
 ) -> Code
-    ensures { λ r. ⌜ given (r .returned) [] [] (buffers (now (server .entry)) (now (view .exit)) (now (log .exit))) ≡ step (geometry n b m) (Call.cut) (buffers (now (server .entry)) (now (view .entry)) (now (log .entry))) ⌝ }
+    ensures { λ r. ⌜ given (r .returned) [] [] (buffers (now (server .entry)) (now (view .exit)) (now (log .exit)))
+        ≡ step (geometry n b m) (Call.cut) (buffers (now (server .entry)) (now (view .entry)) (now (log .entry))) ⌝ }
 {
-    transfer::cut::cut(n as usize, b as usize, m as usize, server, view, log)
+    session_cut::cut(n as usize, b as usize, m as usize, server, view, log)
 }
 
 // "Take writes the earliest loss of a program and frees its slot."
@@ -462,9 +478,10 @@ pub extern "C" fn wb_take(
     program: u64,
     buffer: &mut [u8],
 ) -> Value
-    ensures { λ r. ⌜ given (r .returned) (r .value ∷ []) (now (buffer .exit)) (buffers (now (server .entry)) (now (view .entry)) (now (log .exit))) ≡ step (geometry n b m) (Call.take program (now (buffer .entry))) (buffers (now (server .entry)) (now (view .entry)) (now (log .entry))) ⌝ }
+    ensures { λ r. ⌜ given (r .returned) (r .value ∷ []) (now (buffer .exit)) (buffers (now (server .entry)) (now (view .entry)) (now (log .exit)))
+        ≡ step (geometry n b m) (Call.take program (now (buffer .entry))) (buffers (now (server .entry)) (now (view .entry)) (now (log .entry))) ⌝ }
 {
-    recovery::take::take(
+    session_take::take(
         n as usize,
         b as usize,
         m as usize,
@@ -487,9 +504,10 @@ pub extern "C" fn wb_renew(
     log: &mut [u8],
     program: u64,
 ) -> Code
-    ensures { λ r. ⌜ given (r .returned) [] [] (buffers (now (server .entry)) (now (view .entry)) (now (log .exit))) ≡ step (geometry n b m) (Call.renew program) (buffers (now (server .entry)) (now (view .entry)) (now (log .entry))) ⌝ }
+    ensures { λ r. ⌜ given (r .returned) [] [] (buffers (now (server .entry)) (now (view .entry)) (now (log .exit)))
+        ≡ step (geometry n b m) (Call.renew program) (buffers (now (server .entry)) (now (view .entry)) (now (log .entry))) ⌝ }
 {
-    recovery::renew::renew(
+    session_renew::renew(
         n as usize,
         b as usize,
         m as usize,

@@ -1,12 +1,13 @@
 // The record reader for C: all that it tells of the record at a place, in one struct of numbers.
 ghost use mathlib.Core.Path.{_≡_};
 ghost use lib.ListN.{drop};
-ghost use Rattle.records.specs.Decode.{decodeRecord};
-ghost use Rattle.reader.specs.declared.Whole.{Whole};
+ghost use Rattle.record.specs.Decode.{decodeRecord};
+ghost use Rattle.record_reader.specs.declared.Whole.{Whole};
 ghost use Rattle.writebehind.specs.Loss.{lossIn, noLoss, lossOf};
-use reader::Reading;
-use reader::Whole;
-use reader::read_record;
+use buffer::span::Span;
+use record_reader::Reading;
+use record_reader::Whole;
+use record_reader::read_record;
 use returned::BAD_RECORD;
 
 // A loss record: the returned number, the place after it, then its fields. Names, data and list are told by where they begin in
@@ -68,11 +69,11 @@ fn loss_in(w: Whole) -> Loss
     let head = w.head;
     let objects = w.objects;
     let names = w.names;
-    let name = names.name;
-    let second = names.second;
+    let name: Span = names.name;
+    let second: Span = names.second;
     let range = w.range;
-    let content = range.content;
-    let list = range.list;
+    let content: Span = range.content;
+    let list: Span = range.list;
     let kind = head.kind;
     Loss {
         returned: 0,

@@ -1,7 +1,7 @@
 //! Buffers of their own for the tests, and calls on them that give plain numbers.
 #![allow(dead_code)]
 
-use second::geometry::Geometry;
+use second::geometry::{Geometry, BLOCK, ENTRY_HEAD, LOG_HEAD, SLOT};
 use second::log::{Log, Slot, State};
 use second::record::{Kind, Record};
 use second::{Lent, Refusal, Stat};
@@ -19,6 +19,16 @@ pub struct World {
     pub log: Vec<u8>,
 }
 
+/// The bytes of an entry with b blocks.
+pub const fn entry_length(b: u64) -> usize {
+    ENTRY_HEAD + BLOCK * b as usize
+}
+
+/// The bytes of a log with m slots.
+pub const fn log_length(m: u64) -> usize {
+    LOG_HEAD + SLOT * m as usize
+}
+
 fn numbered<T>(answer: Result<T, Refusal>) -> Result<T, u64> {
     answer.map_err(Refusal::number)
 }
@@ -26,8 +36,8 @@ fn numbered<T>(answer: Result<T, Refusal>) -> Result<T, u64> {
 impl World {
     /// Buffers that fit the geometry, formatted and mounted.
     pub fn new(n: u64, b: u64, m: u64) -> World {
-        let volume = (n * (68 + 1024 * b)) as usize;
-        let log = (8 + 1048 * m) as usize;
+        let volume = n as usize * entry_length(b);
+        let log = log_length(m);
         let mut world = World { n, b, m, server: vec![9; volume], view: vec![9; volume], log: vec![9; log] };
         assert_eq!(world.format(), Ok(0));
         assert_eq!(world.mount(), Ok(0));
@@ -146,7 +156,7 @@ impl World {
     }
 
     pub fn entry_at(&self, object: u64) -> usize {
-        (object * (68 + 1024 * self.b)) as usize
+        object as usize * entry_length(self.b)
     }
 
     pub fn dependents(&self) -> Vec<u32> {

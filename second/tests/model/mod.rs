@@ -1,6 +1,9 @@
-//! The register of document 01 ("The register"), kept apart from the library: a tree of nodes, operations with
-//! their fate, and the whole history of calls, from which everything in the log is reckoned anew.
+//! The register of document 01 ("The register"), kept apart from the library but for the numbers of the layout: a tree
+//! of nodes, operations with their fate, and the whole history of calls, from which everything in the log is reckoned
+//! anew.
 
+use second::geometry::{BLOCK, ENTRY_HEAD, LOG_HEAD, SLOT};
+use second::volume::LENGTH_AT;
 use std::collections::{BTreeMap, BTreeSet};
 
 /// What an operation does, with its record completed.
@@ -125,11 +128,11 @@ impl Tree {
                 entry.extend([if node.directory { 2 } else { 1 }, node.name.len() as u8]);
                 entry.extend(node.parent.to_le_bytes());
                 entry.extend(&node.name);
-                entry.resize(64, 0);
+                entry.resize(LENGTH_AT, 0);
                 entry.extend((node.data.len() as u32).to_le_bytes());
                 entry.extend(&node.data);
             }
-            entry.resize(68 + 1024 * b as usize, 0);
+            entry.resize(ENTRY_HEAD + BLOCK * b as usize, 0);
             bytes.extend(entry);
         }
         bytes
@@ -367,10 +370,10 @@ impl Register {
             let mut slot = vec![state, 0, 0, 0];
             slot.extend(u32::to_le_bytes(dependents));
             slot.extend(operation.record());
-            slot.resize(1048, 0);
+            slot.resize(SLOT, 0);
             bytes.extend(slot);
         }
-        bytes.resize(8 + 1048 * m as usize, 0);
+        bytes.resize(LOG_HEAD + SLOT * m as usize, 0);
         bytes
     }
 }

@@ -5,8 +5,8 @@ use mathlib.Core.List.{List, [], _∷_}
 use mathlib.Core.Bool.{Bool, true, _&&_, cond}
 use lib.ListN.{getD}
 use lib.Dec.{eqb}
-use Rattle.records.specs.Operation.{Record, operands}
-use Rattle.records.specs.Fields.{member}
+use Rattle.record.specs.Operation.{Record, operands}
+use Rattle.record.specs.Fields.{member}
 use Rattle.log.specs.Slot.{Slot, isWaiting}
 use Rattle.log.specs.Order.{shares}
 use Rattle.log.specs.Depend.{reach}
@@ -23,7 +23,7 @@ pub record Holds (set : List ℕ) (objects : List ℕ) : Type 0 where
 unfoldable pub chosen : List ℕ → List Slot → List Record
 chosen [] l = []
 chosen (f ∷ fs) [] = []
-chosen (f ∷ fs) (s ∷ l) = cond (eqb f 1) (s .loss ∷ chosen fs l) (chosen fs l)
+chosen (f ∷ fs) (s ∷ l) = cond (eqb f 1) (s .recorded ∷ chosen fs l) (chosen fs l)
 
 -- the slots that are not in a set, in their order
 unfoldable pub kept : List ℕ → List Slot → List Slot
@@ -40,4 +40,4 @@ AllWait (f ∷ fs) (s ∷ l) = (eqb f 1 ≡ true → isWaiting s ≡ true) × Al
 -- the set of the waiting slots that a call with given operands reaches
 unfoldable pub reached : List ℕ → List Slot → List ℕ
 reached ops [] = []
-reached ops (s ∷ l) = cond (isWaiting s && shares (operands (s .loss .operation)) (reach ops l)) 1 0 ∷ reached ops l
+reached ops (s ∷ l) = cond (isWaiting s && shares (operands (s .recorded .operation)) (reach ops l)) 1 0 ∷ reached ops l

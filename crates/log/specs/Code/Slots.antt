@@ -4,8 +4,8 @@ use mathlib.Core.Path.{_≡_}
 use mathlib.Core.List.{List, []}
 use mathlib.Core.Bool.{true}
 use lib.ListN.{length, getD, take, drop}
-use Rattle.records.specs.Operation.{forder, recordOf}
-use Rattle.log.specs.Slot.{lost, Slot, goodSlots, wellFormed}
+use Rattle.record.specs.Operation.{forder, recordOf}
+use Rattle.log.specs.Slot.{lost, Slot, goodSlots, wellFormedLog}
 use Rattle.log.specs.Stored.{headBytes, slotBytes, logBytes, encodeSlots, encodeLog, readSlots, readLog}
 
 -- the slots that the bytes of so many used slots tell of
@@ -18,7 +18,7 @@ slotPart s i = take slotBytes (drop (i * slotBytes) s)
 
 -- the slot at a position; past the last one a slot that stands for none
 abbrev pub noSlot : Slot
-noSlot = record { state = lost; dependents = 0; loss = recordOf 0 0 (forder []) }
+noSlot = record { state = lost; dependents = 0; recorded = recordOf 0 0 (forder []) }
 
 abbrev pub slotAt : List Slot → ℕ → Slot
 slotAt l i = getD l i noSlot
@@ -35,7 +35,7 @@ pub record Logged (n b m : ℕ) (s : List ℕ) : Type 0 where
   pub blocks : b ≤ 64
   pub most : m ≤ 1024
   pub whole : length s ≡ logBytes m
-  pub form : wellFormed n b m (readLog m s) ≡ true
+  pub form : wellFormedLog n b m (readLog m s) ≡ true
   pub stored : encodeLog m (readLog m s) ≡ s
 
 -- how many slots of a log are used

@@ -7,8 +7,8 @@ use Prim.Native.Nat.{ℕ, _+_, _-_, _^_, _≤_, _<_}
 use lib.ListN.{length}
 use lib.Seq.{length-take-le}
 use borrow.Author.Tests.{eqb-false}
-use Rattle.report.specs.Pass.{longest}
-use Rattle.report.specs.ReportLaws.{pass-within, pass-left, pass-open}
+use Rattle.losses_report.specs.Pass.{longest}
+use Rattle.losses_report.specs.Laws.Report.{pass-within, pass-left, pass-open}
 use Rattle.losses.proofs.run.Statement.{statement}
 use Rattle.losses.proofs.run.Tie as tie
 
@@ -37,9 +37,11 @@ sub-if1-2 c = omega arith
 
 same-length : tie.Need-same-length Inv-loop μ-loop
 same-length c =
-    let a = c .before .before .before .before .before .before .before .before in
-    let l = c .before .before .before .before .before .loop in
-    let f = c .before .before .before .refill in
+    let at-refill = c .before .before .before in
+    let at-loop = at-refill .before .before in
+    let a = at-loop .before .before .before in
+    let l = at-loop .loop in
+    let f = at-refill .refill in
     f .kept .0 ∙ l .inv .0
 
 same-length-2 : tie.Need-same-length-2 Inv-loop μ-loop
@@ -53,58 +55,75 @@ add-held c = omega arith
 
 slice-reshare-prefix-pass : tie.Need-slice-reshare-prefix-pass Inv-loop μ-loop
 slice-reshare-prefix-pass c =
-    let a = c .before .before .before .before .before .before .before .before in
-    let l = c .before .before .before .before .before .loop in
-    let f = c .before .before .before .refill in
+    let at-refill = c .before .before .before in
+    let at-loop = at-refill .before .before in
+    let a = at-loop .before .before .before in
+    let l = at-loop .loop in
+    let f = at-refill .refill in
     omega (arith, f .kept .0, f .ensures .0)
 
 slice-aggregate-pass : tie.Need-slice-aggregate-pass Inv-loop μ-loop
 slice-aggregate-pass c =
-    let a = c .before .before .before .before .before .before .before .before .before in
-    let l = c .before .before .before .before .before .before .loop in
-    let f = c .before .before .before .before .refill in
+    let at-refill = c .before .before .before .before in
+    let at-loop = at-refill .before .before in
+    let a = at-loop .before .before .before in
+    let l = at-loop .loop in
+    let f = at-refill .refill in
     sym (length-take-le (l .held + f .result) (f .last .0) (omega (arith, f .kept .0, f .ensures .0)))
 
 pass-requires : tie.Need-pass-requires Inv-loop μ-loop
 pass-requires c κs =
-    let a = c .before .before .before .before .before .before .before .before .before .before in
-    let l = c .before .before .before .before .before .before .before .loop in
-    let f = c .before .before .before .before .before .refill in
+    let at-refill = c .before .before .before .before .before in
+    let at-loop = at-refill .before .before in
+    let a = at-loop .before .before .before in
+    let l = at-loop .loop in
+    let f = at-refill .refill in
     let t = length-take-le (l .held + f .result) (f .last .0) (omega (arith, f .kept .0, f .ensures .0)) in
     (omega (arith, t), omega (arith, t, f .ensures .0, l .inv .0, l .inv .1))
 
 slice-reshare-prefix-write-all : tie.Need-slice-reshare-prefix-write-all Inv-loop μ-loop
 slice-reshare-prefix-write-all c =
-    let a = c .before .before .before .before .before .before .before .before .before .before .before .before .before in
-    let l = c .before .before .before .before .before .before .before .before .before .before .loop in
-    let f = c .before .before .before .before .before .before .before .before .refill in
-    let p = c .before .before .pass in
-    omega (arith, p .kept .1 .1 .1 .0, p .ensures .written, p .ensures .room)
+    let at-pass = c .before .before in
+    let at-refill = at-pass .before .before .before .before .before .before in
+    let at-loop = at-refill .before .before in
+    let a = at-loop .before .before .before in
+    let l = at-loop .loop in
+    let f = at-refill .refill in
+    let p = at-pass .pass in
+    omega (arith, p .kept .1 .1 .1 .0, p .ensures .wrote .ends, p .ensures .room)
 
 slice-aggregate-write-all : tie.Need-slice-aggregate-write-all Inv-loop μ-loop
 slice-aggregate-write-all c =
-    let a = c .before .before .before .before .before .before .before .before .before .before .before .before .before .before in
-    let l = c .before .before .before .before .before .before .before .before .before .before .before .loop in
-    let f = c .before .before .before .before .before .before .before .before .before .refill in
-    let p = c .before .before .before .pass in
-    sym (length-take-le (p .result .written) (p .last .1 .1 .1 .0) (omega (arith, p .kept .1 .1 .1 .0, p .ensures .written, p .ensures .room)))
+    let at-pass = c .before .before .before in
+    let at-refill = at-pass .before .before .before .before .before .before in
+    let at-loop = at-refill .before .before in
+    let a = at-loop .before .before .before in
+    let l = at-loop .loop in
+    let f = at-refill .refill in
+    let p = at-pass .pass in
+    sym (length-take-le (p .result .written) (p .last .1 .1 .1 .0) (omega (arith, p .kept .1 .1 .1 .0, p .ensures .wrote .ends, p .ensures .room)))
 
 write-all-requires : tie.Need-write-all-requires Inv-loop μ-loop
 write-all-requires c κs = tt
 
 same-length-3 : tie.Need-same-length-3 Inv-loop μ-loop
 same-length-3 c =
-    let a = c .before .before .before .before .before .before .before .before .before .before .before .before .before .before .before .before in
-    let l = c .before .before .before .before .before .before .before .before .before .before .before .before .before .loop in
-    let f = c .before .before .before .before .before .before .before .before .before .before .before .refill in
+    let at-refill = c .before .before .before .before .before .before .before .before .before .before .before in
+    let at-loop = at-refill .before .before in
+    let a = at-loop .before .before .before in
+    let l = at-loop .loop in
+    let f = at-refill .refill in
     f .kept .0 ∙ l .inv .0
 
 same-length-4 : tie.Need-same-length-4 Inv-loop μ-loop
 same-length-4 c =
-    let a = c .before .before .before .before .before .before .before .before .before .before .before .before .before .before .before .before in
-    let l = c .before .before .before .before .before .before .before .before .before .before .before .before .before .loop in
-    let f = c .before .before .before .before .before .before .before .before .before .before .before .refill in
-    let p = c .before .before .before .before .before .pass in
+    let at-pass = c .before .before .before .before .before in
+    let at-refill = at-pass .before .before .before .before .before .before in
+    let at-loop = at-refill .before .before in
+    let a = at-loop .before .before .before in
+    let l = at-loop .loop in
+    let f = at-refill .refill in
+    let p = at-pass .pass in
     search needs
 
 returns-2 : tie.Need-returns-2 Inv-loop μ-loop
@@ -118,17 +137,22 @@ enum-told-2 c = search needs
 
 same-length-5 : tie.Need-same-length-5 Inv-loop μ-loop
 same-length-5 c =
-    let a = c .before .before .before .before .before .before .before .before .before .before .before .before .before .before .before .before .before .before in
-    let l = c .before .before .before .before .before .before .before .before .before .before .before .before .before .before .before .loop in
-    let f = c .before .before .before .before .before .before .before .before .before .before .before .before .before .refill in
+    let at-refill = c .before .before .before .before .before .before .before .before .before .before .before .before .before in
+    let at-loop = at-refill .before .before in
+    let a = at-loop .before .before .before in
+    let l = at-loop .loop in
+    let f = at-refill .refill in
     f .kept .0 ∙ l .inv .0
 
 same-length-6 : tie.Need-same-length-6 Inv-loop μ-loop
 same-length-6 c =
-    let a = c .before .before .before .before .before .before .before .before .before .before .before .before .before .before .before .before .before .before in
-    let l = c .before .before .before .before .before .before .before .before .before .before .before .before .before .before .before .loop in
-    let f = c .before .before .before .before .before .before .before .before .before .before .before .before .before .refill in
-    let p = c .before .before .before .before .before .before .before .pass in
+    let at-pass = c .before .before .before .before .before .before .before in
+    let at-refill = at-pass .before .before .before .before .before .before in
+    let at-loop = at-refill .before .before in
+    let a = at-loop .before .before .before in
+    let l = at-loop .loop in
+    let f = at-refill .refill in
+    let p = at-pass .pass in
     search needs
 
 returns-3 : tie.Need-returns-3 Inv-loop μ-loop
@@ -136,56 +160,74 @@ returns-3 c = tt
 
 keep-rest-requires : tie.Need-keep-rest-requires Inv-loop μ-loop
 keep-rest-requires c κs =
-    let a = c .before .before .before .before .before .before .before .before .before .before .before .before .before .before .before .before .before .before .before in
-    let l = c .before .before .before .before .before .before .before .before .before .before .before .before .before .before .before .before .loop in
-    let f = c .before .before .before .before .before .before .before .before .before .before .before .before .before .before .refill in
-    let p = c .before .before .before .before .before .before .before .before .pass in
+    let at-pass = c .before .before .before .before .before .before .before .before in
+    let at-refill = at-pass .before .before .before .before .before .before in
+    let at-loop = at-refill .before .before in
+    let a = at-loop .before .before .before in
+    let l = at-loop .loop in
+    let f = at-refill .refill in
+    let p = at-pass .pass in
     let t = length-take-le (l .held + f .result) (f .last .0) (omega (arith, f .kept .0, f .ensures .0)) in
     let w = pass-within (p .ensures .pass) in
     (omega (arith, t, w), omega (arith, f .kept .0, f .ensures .0))
 
 add-base : tie.Need-add-base Inv-loop μ-loop
 add-base c =
-    let a = c .before .before .before .before .before .before .before .before .before .before .before .before .before .before .before .before .before .before .before .before .before .before in
-    let l = c .before .before .before .before .before .before .before .before .before .before .before .before .before .before .before .before .before .before .before .loop in
-    let f = c .before .before .before .before .before .before .before .before .before .before .before .before .before .before .before .before .before .refill in
-    let p = c .before .before .before .before .before .before .before .before .before .before .before .pass in
+    let at-pass = c .before .before .before .before .before .before .before .before .before .before .before in
+    let at-refill = at-pass .before .before .before .before .before .before in
+    let at-loop = at-refill .before .before in
+    let a = at-loop .before .before .before in
+    let l = at-loop .loop in
+    let f = at-refill .refill in
+    let p = at-pass .pass in
     let t = length-take-le (l .held + f .result) (f .last .0) (omega (arith, f .kept .0, f .ensures .0)) in
     let w = pass-within (p .ensures .pass) in
     omega (arith, t, w)
 
 sub-held : tie.Need-sub-held Inv-loop μ-loop
 sub-held c =
-    let a = c .before .before .before .before .before .before .before .before .before .before .before .before .before .before .before .before .before .before .before .before .before .before in
-    let l = c .before .before .before .before .before .before .before .before .before .before .before .before .before .before .before .before .before .before .before .loop in
-    let f = c .before .before .before .before .before .before .before .before .before .before .before .before .before .before .before .before .before .refill in
-    let p = c .before .before .before .before .before .before .before .before .before .before .before .pass in
+    let at-pass = c .before .before .before .before .before .before .before .before .before .before .before in
+    let at-refill = at-pass .before .before .before .before .before .before in
+    let at-loop = at-refill .before .before in
+    let a = at-loop .before .before .before in
+    let l = at-loop .loop in
+    let f = at-refill .refill in
+    let p = at-pass .pass in
     let t = length-take-le (l .held + f .result) (f .last .0) (omega (arith, f .kept .0, f .ensures .0)) in
     let w = pass-within (p .ensures .pass) in
     omega (arith, t, w)
 
 loop-less : tie.Need-loop-less Inv-loop μ-loop
 loop-less c =
-    let a = c .before .before .before .before .before .before .before .before .before .before .before .before .before .before .before .before .before .before .before .before .before .before in
-    let l = c .before .before .before .before .before .before .before .before .before .before .before .before .before .before .before .before .before .before .before .loop in
-    let f = c .before .before .before .before .before .before .before .before .before .before .before .before .before .before .before .before .before .refill in
-    let p = c .before .before .before .before .before .before .before .before .before .before .before .pass in
+    let at-enum-told = c .before .before .before .before in
+    let at-pass = at-enum-told .before .before .before .before .before .before .before in
+    let at-refill = at-pass .before .before .before .before .before .before in
+    let at-loop = at-refill .before .before in
+    let a = at-loop .before .before .before in
+    let l = at-loop .loop in
+    let f = at-refill .refill in
+    let p = at-pass .pass in
     let t = length-take-le (l .held + f .result) (f .last .0) (omega (arith, f .kept .0, f .ensures .0)) in
     let w = pass-within (p .ensures .pass) in
-    let g = rw (c .before .before .before .before .enum-told .given .1) at (p .ensures .pass) in
+    let g = rw (at-enum-told .enum-told .given .1) at (p .ensures .pass) in
     let some = eqb-false (f .result) 0 (pass-open g) in
     falls (l .base) (l .held) (f .result) (p .result .next) (omega (arith, t, w)) (omega (arith, some)) (omega arith)
 
 loop-again : tie.Need-loop-again Inv-loop μ-loop
 loop-again c =
-    let a = c .before .before .before .before .before .before .before .before .before .before .before .before .before .before .before .before .before .before .before .before .before .before in
-    let l = c .before .before .before .before .before .before .before .before .before .before .before .before .before .before .before .before .before .before .before .loop in
-    let f = c .before .before .before .before .before .before .before .before .before .before .before .before .before .before .before .before .before .refill in
-    let p = c .before .before .before .before .before .before .before .before .before .before .before .pass in
+    let at-keep-rest = c .before .before in
+    let at-enum-told = at-keep-rest .before .before in
+    let at-pass = at-enum-told .before .before .before .before .before .before .before in
+    let at-refill = at-pass .before .before .before .before .before .before in
+    let at-loop = at-refill .before .before in
+    let a = at-loop .before .before .before in
+    let l = at-loop .loop in
+    let f = at-refill .refill in
+    let p = at-pass .pass in
     let t = length-take-le (l .held + f .result) (f .last .0) (omega (arith, f .kept .0, f .ensures .0)) in
     let w = pass-within (p .ensures .pass) in
-    let g = rw (c .before .before .before .before .enum-told .given .1) at (p .ensures .pass) in
-    (c .before .before .keep-rest .kept .0 ∙ f .kept .0 ∙ l .inv .0, p .kept .1 .1 .1 .0 ∙ l .inv .1, omega (arith, t, w, pass-left g), omega (arith, t, w))
+    let g = rw (at-enum-told .enum-told .given .1) at (p .ensures .pass) in
+    (at-keep-rest .keep-rest .kept .0 ∙ f .kept .0 ∙ l .inv .0, p .kept .1 .1 .1 .0 ∙ l .inv .1, omega (arith, t, w, pass-left g), omega (arith, t, w))
 
 pub run-spec : {M : Type 1} → statement M
 run-spec =

@@ -7,7 +7,7 @@ use mathlib.Core.List.{List}
 use native.Mathlib.Omega.{arith}
 use lib.ListN.{length, getD, drop, drop-of-length-le}
 use Rattle.names.specs.Name.{allPermitted, permittedByte}
-use Rattle.names.specs.NameLaws.{permitted-rule, rule-permitted, all-step}
+use Rattle.names.specs.Laws.Name.{permitted-rule, rule-permitted, all-step}
 use Rattle.names.proofs.all_permitted.Statement.{statement}
 use Rattle.names.proofs.all_permitted.Tie as tie
 

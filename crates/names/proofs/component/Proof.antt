@@ -4,7 +4,7 @@ use mathlib.Core.Path.{sym}
 use native.Mathlib.Omega.{arith}
 use borrow.Author.Needs.{needs}
 use Rattle.names.specs.Path.{componentAt}
-use Rattle.names.specs.PathLaws.{up-end}
+use Rattle.names.specs.Laws.Path.{up-end}
 use Rattle.names.proofs.component.Statement.{statement}
 use Rattle.names.proofs.component.Tie as tie
 

@@ -8,7 +8,7 @@ use native.Mathlib.Omega.{arith}
 use lib.ListN.{length, getD, take, drop, length-drop}
 use lib.Seq.{take-suc, getD-drop}
 use Rattle.names.specs.Path.{upToSlash}
-use Rattle.names.specs.PathLaws.{up-slash, up-byte, up-end}
+use Rattle.names.specs.Laws.Path.{up-slash, up-byte, up-end}
 use Rattle.names.proofs.component_end.Statement.{statement}
 use Rattle.names.proofs.component_end.Tie as tie
 

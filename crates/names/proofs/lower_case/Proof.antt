@@ -2,7 +2,7 @@
 use mathlib.Core.Path.{sym}
 use native.Mathlib.Omega.{arith}
 use borrow.Author.Needs.{needs}
-use Rattle.names.specs.NameLaws.{capital-lower, below-lower, above-lower}
+use Rattle.names.specs.Laws.Name.{capital-lower, below-lower, above-lower}
 use Rattle.names.proofs.lower_case.Statement.{statement}
 use Rattle.names.proofs.lower_case.Tie as tie
 

@@ -10,7 +10,7 @@ use borrow.Author.Needs.{needs}
 use borrow.Author.Tests.{le-leb, lt-leb, eq-eqb, ne-eqb}
 use Rattle.names.specs.declared.PathText.the-variants.{Bad, Root}
 use Rattle.names.specs.Path.{pathTextOf}
-use Rattle.names.specs.PathLaws.{path-components}
+use Rattle.names.specs.Laws.Path.{path-components}
 use Rattle.names.proofs.path_text.Statement.{statement}
 use Rattle.names.proofs.path_text.Tie as tie
 

@@ -9,7 +9,7 @@ use borrow.Author.Needs.{needs}
 use lib.ListN.{length, getD, drop, drop-of-length-le}
 use borrow.Author.Tests.{eq-eqb, ne-eqb}
 use Rattle.names.specs.Name.{lowerCase, sameName}
-use Rattle.names.specs.NameLaws.{same-step, lengths-differ}
+use Rattle.names.specs.Laws.Name.{same-step, lengths-differ}
 use Rattle.names.proofs.same_name.Statement.{statement}
 use Rattle.names.proofs.same_name.Tie as tie
 

@@ -2,7 +2,7 @@
 -- Assumes nothing.
 use borrow.Author.Needs.{needs}
 use native.Mathlib.Omega.{arith}
-use Rattle.buffer.specs.NumeralLaws.{numeral-four}
+use Rattle.buffer.specs.Laws.Numeral.{numeral-four}
 use Rattle.buffer.proofs.number.four_at.Statement.{statement}
 use Rattle.buffer.proofs.number.four_at.Tie as tie
 

@@ -2,7 +2,7 @@
 -- Assumes nothing.
 use borrow.Author.Needs.{needs}
 use native.Mathlib.Omega.{arith}
-use Rattle.buffer.specs.NumeralLaws.{numeral-two}
+use Rattle.buffer.specs.Laws.Numeral.{numeral-two}
 use Rattle.buffer.proofs.number.two_at.Statement.{statement}
 use Rattle.buffer.proofs.number.two_at.Tie as tie
 

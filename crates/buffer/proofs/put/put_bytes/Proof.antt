@@ -5,7 +5,7 @@ use Prim.Native.Nat.{_≤_, _-_}
 use mathlib.Core.Path.{_≡_, refl}
 use lib.ListN.{length, length-set}
 use lib.Seq.{paste, paste-zero}
-use Rattle.buffer.specs.PatchLaws.{put-paste, paste-on}
+use Rattle.buffer.specs.Laws.Patch.{put-paste, paste-on}
 use Rattle.buffer.proofs.put.put_bytes.Statement.{statement}
 use Rattle.buffer.proofs.put.put_bytes.Tie as tie
 

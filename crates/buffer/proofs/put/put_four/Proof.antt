@@ -2,8 +2,8 @@
 -- Assumes nothing.
 use borrow.Author.Needs.{needs}
 use native.Mathlib.Omega.{arith}
-use Rattle.buffer.specs.NumeralLaws.{length-bytes}
-use Rattle.buffer.specs.PatchLaws.{put-then, put-end, bytes-four}
+use Rattle.buffer.specs.Laws.Numeral.{length-bytes}
+use Rattle.buffer.specs.Laws.Patch.{put-then, put-end, bytes-four}
 use Rattle.buffer.proofs.put.put_four.Statement.{statement}
 use Rattle.buffer.proofs.put.put_four.Tie as tie
 

@@ -4,7 +4,7 @@ use borrow.Author.Needs.{needs}
 use native.Mathlib.Omega.{arith}
 use Prim.Native.Nat.{_%_}
 use Rattle.buffer.specs.Numeral.{bytes}
-use Rattle.buffer.specs.PatchLaws.{put-set}
+use Rattle.buffer.specs.Laws.Patch.{put-set}
 use Rattle.buffer.proofs.put.put_one.Statement.{statement}
 use Rattle.buffer.proofs.put.put_one.Tie as tie
 

@@ -3,8 +3,8 @@
 use borrow.Author.Needs.{needs}
 use native.Mathlib.Omega.{arith}
 use Rattle.buffer.specs.Numeral.{bytes}
-use Rattle.buffer.specs.NumeralLaws.{length-bytes}
-use Rattle.buffer.specs.PatchLaws.{put-then, put-end}
+use Rattle.buffer.specs.Laws.Numeral.{length-bytes}
+use Rattle.buffer.specs.Laws.Patch.{put-then, put-end}
 use Rattle.buffer.proofs.put.put_two.Statement.{statement}
 use Rattle.buffer.proofs.put.put_two.Tie as tie
 

@@ -5,7 +5,7 @@ use mathlib.Core.Path.{ap}
 use Prim.Native.Nat.{ℕ}
 use native.Mathlib.Nat.{add-sub-cancel-left}
 use lib.ListN.{take, drop}
-use Rattle.buffer.specs.SpanLaws.{stretch-past, stretch-rest}
+use Rattle.buffer.specs.Laws.Span.{stretch-past, stretch-rest}
 use Rattle.buffer.proofs.span.stretch_of.Statement.{statement}
 use Rattle.buffer.proofs.span.stretch_of.Tie as tie
 

@@ -8,7 +8,7 @@ use native.Mathlib.Omega.{arith}
 use lib.Dec.{eqb}
 use lib.ListN.{length, drop, drop-of-length-le}
 use Rattle.buffer.specs.Code.Zero.{zeros}
-use Rattle.buffer.specs.ZeroLaws.{zeros-seen}
+use Rattle.buffer.specs.Laws.Zero.{zeros-seen}
 use Rattle.buffer.proofs.zero.all_zero.Statement.{statement}
 use Rattle.buffer.proofs.zero.all_zero.Tie as tie
 

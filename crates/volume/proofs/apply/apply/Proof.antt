@@ -4,13 +4,13 @@ use mathlib.Core.Path.{sym, ap, _∙_, subst}
 use mathlib.Core.Bool.{Bool}
 use lib.ListN.{set}
 use native.Mathlib.Omega.{arith}
-use Rattle.records.specs.Fields.{displacedIf}
-use Rattle.entry.specs.Entry.{renamed}
-use Rattle.applies.specs.Apply.{withoutDisplaced}
-use Rattle.search.specs.Code.Lent.{entryIn}
-use Rattle.applies.specs.Code.Held.{Displaces}
-use Rattle.search.specs.Stored.{encodeVolume, readVolume}
-use Rattle.volume.specs.KindLaws as held
+use Rattle.record.specs.Fields.{displacedIf}
+use Rattle.volume_entry.specs.Entry.{renamed}
+use Rattle.volume_apply.specs.Apply.{withoutDisplaced}
+use Rattle.volume_tree.specs.Code.Lent.{entryIn}
+use Rattle.volume_applies.specs.Code.Held.{Displaces}
+use Rattle.volume_tree.specs.Stored.{encodeVolume, readVolume}
+use Rattle.volume.specs.Laws.Kind as held
 use borrow.Author.Needs.{needs}
 use Rattle.volume.proofs.apply.apply.Statement.{statement}
 use Rattle.volume.proofs.apply.apply.Tie as tie
@@ -27,10 +27,11 @@ enum-told c = search needs
 make-entry-requires : tie.Need-make-entry-requires
 make-entry-requires c κs =
     let e = c .before in
-    let t = e .before .before .before .before .before .before .before .before .before .before .before .before .before in
+    let at-stretch-of = e .before .before .before in
+    let t = at-stretch-of .before .before .before .before .before .before .before .before .before .before in
     let a = t .args in
     let p = t .pre in
-    let x = held.create-ready (a .n) (a .b) (a .s .now) (a .rec .now) (a .w) (p .0) (p .1 .0) (p .1 .1) (e .before .before .before .stretch-of .result .now) (e .before .before .before .stretch-of .ensures) (e .enum-told .given .1) in
+    let x = held.create-ready (a .n) (a .b) (a .s .now) (a .rec .now) (a .w) (p .0) (p .1 .0) (p .1 .1) (at-stretch-of .stretch-of .result .now) (at-stretch-of .stretch-of .ensures) (e .enum-told .given .1) in
     (p .0, ((x .0, x .1), (omega arith, omega arith, x .2)))
 
 enum-told-2 : tie.Need-enum-told-2
@@ -39,10 +40,11 @@ enum-told-2 c = search needs
 make-entry-requires-2 : tie.Need-make-entry-requires-2
 make-entry-requires-2 c κs =
     let e = c .before in
-    let t = e .before .before .before .before .before .before .before .before .before .before .before .before .before in
+    let at-stretch-of = e .before .before .before in
+    let t = at-stretch-of .before .before .before .before .before .before .before .before .before .before in
     let a = t .args in
     let p = t .pre in
-    let x = held.directory-ready (a .n) (a .b) (a .s .now) (a .rec .now) (a .w) (p .0) (p .1 .0) (p .1 .1) (e .before .before .before .stretch-of .result .now) (e .before .before .before .stretch-of .ensures) (e .enum-told2 .given .1) in
+    let x = held.directory-ready (a .n) (a .b) (a .s .now) (a .rec .now) (a .w) (p .0) (p .1 .0) (p .1 .1) (at-stretch-of .stretch-of .result .now) (at-stretch-of .stretch-of .ensures) (e .enum-told2 .given .1) in
     (p .0, ((x .0, x .1), (omega arith, omega arith, x .2)))
 
 enum-told-3 : tie.Need-enum-told-3
@@ -81,10 +83,11 @@ enum-told-5 c = search needs
 overwrite-file-requires : tie.Need-overwrite-file-requires
 overwrite-file-requires c κs =
     let e = c .before in
-    let t = e .before .before .before .before .before .before .before .before .before .before .before .before .before in
+    let at-stretch-of2 = e .before .before in
+    let t = at-stretch-of2 .before .before .before .before .before .before .before .before .before .before .before in
     let a = t .args in
     let p = t .pre in
-    let x = held.overwrite-needs (a .n) (a .b) (a .s .now) (a .rec .now) (a .w) (p .0) (p .1 .0) (p .1 .1) (e .before .before .stretch-of2 .result .now) (e .before .before .stretch-of2 .ensures) (e .enum-told5 .given .1) in
+    let x = held.overwrite-needs (a .n) (a .b) (a .s .now) (a .rec .now) (a .w) (p .0) (p .1 .0) (p .1 .1) (at-stretch-of2 .stretch-of2 .result .now) (at-stretch-of2 .stretch-of2 .ensures) (e .enum-told5 .given .1) in
     (p .0, ((x .0, x .1), (x .2, x .3, x .4)))
 
 enum-told-6 : tie.Need-enum-told-6
@@ -93,10 +96,11 @@ enum-told-6 c = search needs
 append-file-requires : tie.Need-append-file-requires
 append-file-requires c κs =
     let e = c .before in
-    let t = e .before .before .before .before .before .before .before .before .before .before .before .before .before in
+    let at-stretch-of2 = e .before .before in
+    let t = at-stretch-of2 .before .before .before .before .before .before .before .before .before .before .before in
     let a = t .args in
     let p = t .pre in
-    let x = held.append-needs (a .n) (a .b) (a .s .now) (a .rec .now) (a .w) (p .0) (p .1 .0) (p .1 .1) (e .before .before .stretch-of2 .result .now) (e .before .before .stretch-of2 .ensures) (e .enum-told6 .given .1) in
+    let x = held.append-needs (a .n) (a .b) (a .s .now) (a .rec .now) (a .w) (p .0) (p .1 .0) (p .1 .1) (at-stretch-of2 .stretch-of2 .result .now) (at-stretch-of2 .stretch-of2 .ensures) (e .enum-told6 .given .1) in
     (p .0, ((x .0, x .1, x .2), (x .3, x .4, x .5)))
 
 enum-told-7 : tie.Need-enum-told-7
@@ -120,11 +124,12 @@ same-length c = search needs
 returns : tie.Need-returns
 returns c =
     let y = c .before .before in
-    let e = c .before .before .before .before in
-    let t = e .before .before .before .before .before .before .before .before .before .before .before .before .before in
+    let e = y .before .before in
+    let at-stretch-of = e .before .before .before in
+    let t = at-stretch-of .before .before .before .before .before .before .before .before .before .before in
     let a = t .args in
     let p = t .pre in
-    y .make-entry .ensures ∙ held.create-leaves (a .n) (a .b) (a .s .now) (a .rec .now) (a .w) (p .0) (p .1 .0) (p .1 .1) (e .before .before .before .stretch-of .result .now) (e .before .before .before .stretch-of .ensures) (e .enum-told .given .1)
+    y .make-entry .ensures ∙ held.create-leaves (a .n) (a .b) (a .s .now) (a .rec .now) (a .w) (p .0) (p .1 .0) (p .1 .1) (at-stretch-of .stretch-of .result .now) (at-stretch-of .stretch-of .ensures) (e .enum-told .given .1)
 
 same-length-2 : tie.Need-same-length-2
 same-length-2 c = search needs
@@ -132,11 +137,12 @@ same-length-2 c = search needs
 returns-2 : tie.Need-returns-2
 returns-2 c =
     let y = c .before .before in
-    let e = c .before .before .before .before in
-    let t = e .before .before .before .before .before .before .before .before .before .before .before .before .before in
+    let e = y .before .before in
+    let at-stretch-of = e .before .before .before in
+    let t = at-stretch-of .before .before .before .before .before .before .before .before .before .before in
     let a = t .args in
     let p = t .pre in
-    y .make-entry2 .ensures ∙ held.directory-leaves (a .n) (a .b) (a .s .now) (a .rec .now) (a .w) (p .0) (p .1 .0) (p .1 .1) (e .before .before .before .stretch-of .result .now) (e .before .before .before .stretch-of .ensures) (e .enum-told2 .given .1)
+    y .make-entry2 .ensures ∙ held.directory-leaves (a .n) (a .b) (a .s .now) (a .rec .now) (a .w) (p .0) (p .1 .0) (p .1 .1) (at-stretch-of .stretch-of .result .now) (at-stretch-of .stretch-of .ensures) (e .enum-told2 .given .1)
 
 same-length-3 : tie.Need-same-length-3
 same-length-3 c = search needs
@@ -144,7 +150,7 @@ same-length-3 c = search needs
 returns-3 : tie.Need-returns-3
 returns-3 c =
     let y = c .before .before in
-    let e = c .before .before .before .before in
+    let e = y .before .before in
     let t = e .before .before .before .before .before .before .before .before .before .before .before .before .before in
     let a = t .args in
     let p = t .pre in
@@ -172,11 +178,12 @@ same-length-5 c = search needs
 returns-5 : tie.Need-returns-5
 returns-5 c =
     let y = c .before .before in
-    let e = c .before .before .before .before in
-    let t = e .before .before .before .before .before .before .before .before .before .before .before .before .before in
+    let e = y .before .before in
+    let at-stretch-of2 = e .before .before in
+    let t = at-stretch-of2 .before .before .before .before .before .before .before .before .before .before .before in
     let a = t .args in
     let p = t .pre in
-    y .overwrite-file .ensures ∙ held.overwrite-leaves (a .n) (a .b) (a .s .now) (a .rec .now) (a .w) (p .0) (p .1 .0) (p .1 .1) (e .before .before .stretch-of2 .result .now) (e .before .before .stretch-of2 .ensures) (e .enum-told5 .given .1)
+    y .overwrite-file .ensures ∙ held.overwrite-leaves (a .n) (a .b) (a .s .now) (a .rec .now) (a .w) (p .0) (p .1 .0) (p .1 .1) (at-stretch-of2 .stretch-of2 .result .now) (at-stretch-of2 .stretch-of2 .ensures) (e .enum-told5 .given .1)
 
 same-length-6 : tie.Need-same-length-6
 same-length-6 c = search needs
@@ -184,11 +191,12 @@ same-length-6 c = search needs
 returns-6 : tie.Need-returns-6
 returns-6 c =
     let y = c .before .before in
-    let e = c .before .before .before .before in
-    let t = e .before .before .before .before .before .before .before .before .before .before .before .before .before in
+    let e = y .before .before in
+    let at-stretch-of2 = e .before .before in
+    let t = at-stretch-of2 .before .before .before .before .before .before .before .before .before .before .before in
     let a = t .args in
     let p = t .pre in
-    y .append-file .ensures ∙ held.append-leaves (a .n) (a .b) (a .s .now) (a .rec .now) (a .w) (p .0) (p .1 .0) (p .1 .1) (e .before .before .stretch-of2 .result .now) (e .before .before .stretch-of2 .ensures) (e .enum-told6 .given .1)
+    y .append-file .ensures ∙ held.append-leaves (a .n) (a .b) (a .s .now) (a .rec .now) (a .w) (p .0) (p .1 .0) (p .1 .1) (at-stretch-of2 .stretch-of2 .result .now) (at-stretch-of2 .stretch-of2 .ensures) (e .enum-told6 .given .1)
 
 same-length-7 : tie.Need-same-length-7
 same-length-7 c = search needs
@@ -196,7 +204,7 @@ same-length-7 c = search needs
 returns-7 : tie.Need-returns-7
 returns-7 c =
     let y = c .before .before in
-    let e = c .before .before .before .before in
+    let e = y .before .before in
     let t = e .before .before .before .before .before .before .before .before .before .before .before .before .before in
     let a = t .args in
     let p = t .pre in

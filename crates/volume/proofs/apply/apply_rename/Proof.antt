@@ -1,9 +1,9 @@
 -- `volume::apply::apply_rename` meets its contract: the displaced object is freed first, and the volume is well formed then too.
 -- Assumes nothing.
 use mathlib.Core.Path.{ap, _∙_}
-use Rattle.entry.specs.Entry.{isUsed}
-use Rattle.search.specs.Stored.{readVolume}
-use Rattle.volume.specs.RenameLaws.{displaces, freed-formed, freed-entry, renamed-after, renamed-alone}
+use Rattle.volume_entry.specs.Entry.{isUsed}
+use Rattle.volume_tree.specs.Stored.{readVolume}
+use Rattle.volume.specs.Laws.Rename.{displaces, freed-formed, freed-entry, renamed-after, renamed-alone}
 use borrow.Author.Needs.{needs}
 use Rattle.volume.proofs.apply.apply_rename.Statement.{statement}
 use Rattle.volume.proofs.apply.apply_rename.Tie as tie

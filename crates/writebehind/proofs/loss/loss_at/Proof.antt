@@ -1,6 +1,6 @@
 -- `writebehind::loss::loss_at` meets its contract. Assumes nothing.
 use mathlib.Core.Path.{sym, ap, _∙_}
-use Rattle.writebehind.specs.LossLaws.{lossRead, read-loss}
+use Rattle.writebehind.specs.Laws.Loss.{lossRead, read-loss}
 use borrow.Author.Needs.{needs}
 use Rattle.writebehind.proofs.loss.loss_at.Statement.{statement}
 use Rattle.writebehind.proofs.loss.loss_at.Tie as tie

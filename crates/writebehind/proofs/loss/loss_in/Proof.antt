@@ -10,7 +10,9 @@ code-requires : tie.Need-code-requires
 code-requires c κs = search needs
 
 returns : tie.Need-returns
-returns c = ap (λ (k : ℕ). lossWith k (c .before .before .before .before .before .before .before .before .before .args .w)) (c .code .ensures)
+returns c =
+    let start = c .before .before .before .before .before .before .before .before .before in
+    ap (λ (k : ℕ). lossWith k (start .args .w)) (c .code .ensures)
 
 pub loss-in-spec : {M : Type 1} → statement M
 loss-in-spec = tie.close (tie.spec code-requires returns)

@@ -1,4 +1,0 @@
-pub mod Code
-pub mod AdmittedLaws
-pub mod ObjectLaws
-pub mod TurnLaws

@@ -1,4 +1,0 @@
-pub mod Poke
-pub mod Digest
-pub mod DigestLaws
-pub mod Length

@@ -1,3 +1,0 @@
-pub mod Code
-pub mod ChangeLaws
-pub mod IssuedLaws

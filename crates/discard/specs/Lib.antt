@@ -1,4 +1,0 @@
-pub mod Code
-pub mod FoundLaws
-pub mod DiscardLaws
-pub mod TakeLaws

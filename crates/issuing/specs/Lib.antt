@@ -1,3 +1,0 @@
-pub mod Code
-pub mod DraftLaws
-pub mod IssuedLaws

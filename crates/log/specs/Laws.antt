@@ -1,0 +1,13 @@
+pub mod Order
+pub mod Slot
+pub mod Stored
+pub mod Geometry
+pub mod Needed
+pub mod Freed
+pub mod Bit
+pub mod Program
+pub mod Change
+pub mod Swap
+pub mod Partition
+pub mod Loss
+pub mod Chain

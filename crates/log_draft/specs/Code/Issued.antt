@@ -1,0 +1,52 @@
+-- What is asked of an operation that is issued, and what issuing it leaves of the log and of the view.
+use Prim.Native.Nat.{ℕ}
+use mathlib.Core.Path.{_≡_}
+use mathlib.Core.List.{List, _++_}
+use mathlib.Core.Bool.{true}
+use lib.ListN.{length}
+use Rattle.record.specs.Operation.{Record, operands}
+use Rattle.record.specs.Fields.{encode, valid, fits}
+use Rattle.volume_tree.specs.Volume.{Volume}
+use Rattle.volume_tree.specs.Stored.{encodeVolume}
+use Rattle.volume_apply.specs.Apply.{applies, apply}
+use Rattle.log.specs.Slot.{Log}
+use Rattle.log.specs.Stored.{encodeLog}
+use Rattle.log.specs.Change.{note, issue}
+use Rattle.log_draft.specs.Code.Draft.{Draft}
+
+-- the record of an operation that may be issued: it is valid, fits, and applies to the view
+pub record Issuable (n b : ℕ) (v : Volume) (r : Record) : Type 0 where
+  pub sound : valid r ≡ true
+  pub fit : fits n b r ≡ true
+  pub ready : applies v (r .operation) ≡ true
+
+-- a slice begins with the bytes of a record
+pub record Begins (s : List ℕ) (r : Record) : Type 0 where
+  pub rest : List ℕ
+  pub bytes : s ≡ encode r ++ rest
+
+-- "Each accepted change, and forder, .. takes one sequence number and waits", and brings its dependence
+abbrev pub issuedLog : Record → Log → Log
+issuedLog r l = issue (r .program) (r .operation) (note (r .program) (operands (r .operation)) l)
+
+-- a record stands in the first free slot
+pub record Placed (n b m used p : ℕ) (s : List ℕ) (l : Log) (r : Record) : Type 0 where
+  pub draft : Draft n b m s l r
+  pub place : used ≡ length (l .slots)
+  pub issuer : r .program ≡ p
+
+-- and its operation may be issued
+pub record Ready (n b m used p : ℕ) (s : List ℕ) (v : Volume) (l : Log) (r : Record) : Type 0 where
+  pub placed : Placed n b m used p s l r
+  pub able : Issuable n b v r
+
+-- the sequence number and the log afterwards, in which the operation waits
+pub record Waits (m number : ℕ) (log′ : List ℕ) (l : Log) (r : Record) : Type 0 where
+  pub gives : number ≡ l .next
+  pub log : log′ ≡ encodeLog m (issuedLog r l)
+
+-- the same, and the view afterwards
+pub record Issued (n b m : ℕ) (number : ℕ) (log′ view′ : List ℕ) (v : Volume) (l : Log) (r : Record) : Type 0 where
+  pub gives : number ≡ l .next
+  pub log : log′ ≡ encodeLog m (issuedLog r l)
+  pub view : view′ ≡ encodeVolume b (apply v (r .operation))

@@ -1,0 +1,5 @@
+pub mod Slot
+pub mod Order
+pub mod Loop
+pub mod Checks
+pub mod Form

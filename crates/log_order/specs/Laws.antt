@@ -1,0 +1,2 @@
+pub mod Precede
+pub mod Gather

@@ -1,4 +1,0 @@
-pub mod Code
-pub mod LoopLaws
-pub mod OrderLaws
-pub mod ReadLaws

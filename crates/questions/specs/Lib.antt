@@ -1,4 +1,0 @@
-pub mod Listing
-pub mod Answer
-pub mod ListingLaws
-pub mod AnswerLaws

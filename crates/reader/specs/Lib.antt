@@ -1,9 +1,0 @@
-pub mod Code
-pub mod ReaderLaws
-pub mod Answer
-pub mod SoundLaws
-pub mod SoundRecordLaws
-pub mod CompleteLaws
-pub mod ExactLaws
-pub mod FitLaws
-pub mod AnswerLaws

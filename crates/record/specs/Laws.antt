@@ -1,0 +1,4 @@
+pub mod Kind
+pub mod List
+pub mod Record
+pub mod Decode

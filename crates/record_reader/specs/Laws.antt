@@ -1,0 +1,7 @@
+pub mod Reader
+pub mod Sound
+pub mod SoundRecord
+pub mod Complete
+pub mod Exact
+pub mod Fit
+pub mod Answer

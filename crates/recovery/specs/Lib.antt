@@ -1,3 +1,0 @@
-pub mod NumberLaws
-pub mod RenewLaws
-pub mod TakeLaws

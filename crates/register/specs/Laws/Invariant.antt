@@ -1,0 +1,44 @@
+-- What every list of calls keeps between the register and the model that the buffers store, and what the register keeps by itself.
+use Prim.Native.Nat.{ℕ, _+_, _<_}
+use mathlib.Core.Path.{_≡_}
+use mathlib.Core.List.{List, [], _∷_, map}
+use mathlib.Core.Bool.{true}
+use lib.ListN.{length}
+use Rattle.volume_tree.specs.Form.{wellFormed}
+use Rattle.log.specs.Change.{waitingOf}
+use Rattle.log.specs.Laws.Partition.{applyEach, EachApplies, AllFit, picked, Closed}
+use Rattle.session.specs.Call.{Geometry}
+use Rattle.session.specs.Model.{Model}
+use Rattle.session.specs.Laws.Possible.{Sound}
+use Rattle.register.specs.Register.{lost, Acknowledged, Register, isWaiting, isSent}
+use Rattle.register.specs.History.{directly}
+use Rattle.register.specs.Claim.{recordedOf}
+use Rattle.register.specs.Laws.Fate.{Among, isLive}
+
+-- the operations are "numbered on from 1"
+abbrev pub NumberedFrom : ℕ → List Acknowledged → Type 0
+NumberedFrom k [] = Unit {0}
+NumberedFrom k (a ∷ l) = (a .recorded .sequence ≡ k) × NumberedFrom (k + 1) l
+
+pub record Kept (g : Geometry) (r : Register) (x : Model) : Type 0 where
+  pub sound : Sound g x
+  pub mounted : wellFormed (g .objects) (g .blocks) (r .mounted) ≡ true
+  pub numbers : NumberedFrom 1 (r .operations)
+  pub next : x .log .next ≡ length (r .operations) + 1
+  pub fit : AllFit recordedOf (g .objects) (g .blocks) (r .operations)
+  pub turn : EachApplies recordedOf (r .mounted) (picked isLive (r .operations))
+  pub view : x .view ≡ applyEach recordedOf (r .mounted) (picked isLive (r .operations))
+  pub server : x .server ≡ applyEach recordedOf (r .mounted) (picked isSent (r .operations))
+  pub closed : Closed recordedOf isSent (picked isLive (r .operations))
+  pub waiting : waitingOf (x .log .slots) ≡ map recordedOf (picked isWaiting (r .operations))
+
+-- when operations were issued and lost, and that the sent ones leave out no direct predecessor
+pub record Timed (l : List Acknowledged) (happened : ℕ) : Type 0 where
+  pub issued : (a : Acknowledged) → Among a l → a .issued < happened
+  pub past : (a : Acknowledged) (t : ℕ) → Among a l → a .fate ≡ lost t → t < happened
+  pub later : (a b : Acknowledged) (t : ℕ) → Among a l → Among b l → a .fate ≡ lost t → isWaiting b ≡ true → t < b .issued
+  pub shut : (a c : Acknowledged) → Among a l → Among c l → isSent c ≡ true → directly a c ≡ true → isSent a ≡ true
+
+pub record Good (g : Geometry) (r : Register) (x : Model) : Type 0 where
+  pub kept : Kept g r x
+  pub timed : Timed (r .operations) (r .happened)

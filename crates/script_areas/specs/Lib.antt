@@ -1,0 +1,4 @@
+pub mod Poke
+pub mod Digest
+pub mod Laws
+pub mod Length

@@ -1,4 +1,0 @@
-pub mod Code
-pub mod SendLaws
-pub mod TurnLaws
-pub mod PushLaws

@@ -1,0 +1,16 @@
+pub mod Write
+pub mod Issue
+pub mod Possible
+pub mod Refusal
+pub mod Issuing
+pub mod Edit
+pub mod Effect
+pub mod Perform
+pub mod Ready
+pub mod Call
+pub mod Step
+pub mod Geometry
+pub mod Answer
+pub mod Table
+pub mod Outcome
+pub mod Removal

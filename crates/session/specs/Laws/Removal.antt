@@ -1,0 +1,138 @@
+-- The two removes (document 02, K4): on any volumes and any log one that finds an object of the other kind is refused with 9, whatever else is
+-- amiss with it; on those of the right form an accepted one took an object of its kind, without children. Assumes nothing.
+use Prim.Native.Nat.{ℕ}
+use native.Mathlib.Omega.{arith}
+use mathlib.Core.Path.{_≡_, refl, sym, ap, _∙_, subst}
+use mathlib.Core.List.{List, [], _∷_, _++_}
+use mathlib.Core.Bool.{Bool, true, false, not, false≢true, and-eq-true-iff}
+use mathlib.Core.Option.{Option, none, some}
+use lib.Dec.{eqb}
+use borrow.Author.Tests.{eqb-true, eqb-false, not-true, not-false}
+use Rattle.returned.specs.Returned
+use Rattle.volume_entry.specs.Entry.{Entry, free, file, directory, isUsed, isFile, isDirectory}
+use Rattle.volume_tree.specs.Volume.{Volume, entryAt, isChild, search, hasChildren}
+use Rattle.volume_tree.specs.Form.{wellFormed}
+use Rattle.volume_tree.specs.Laws.Search.{no-children}
+use Rattle.volume_tree.specs.Laws.Change.{directory-used, well-formed-sound}
+use Rattle.session.specs.Call.{Geometry, Call, removeFile, removeDirectory, refusal}
+use Rattle.session.specs.Refusal.{row}
+use Rattle.session.specs.Model.{Model, programRows}
+use Rattle.session.specs.Issue.{removes, issues}
+use Rattle.session.specs.Edit.{roomRows, removeRows, removeOf, ofFound}
+use Rattle.session.specs.Step.{answerOf}
+use Rattle.session.specs.Removal.{Leads, Removable}
+use Rattle.session.specs.Code.Table.{firstNumber}
+use Rattle.session.specs.Laws.Possible.{Sound}
+use Rattle.session.specs.Laws.Refusal.{neither}
+use Rattle.session.specs.Laws.Edit.{change-passed, remove-accepted}
+use Rattle.session.specs.Laws.Table.{first-lowest, unless-refuses, unless-number}
+
+-- no entry is of both kinds
+file-no-directory : (e : Entry) → isFile e ≡ true → isDirectory e ≡ false
+file-no-directory free h = refl
+file-no-directory (file n p c) h = refl
+file-no-directory (directory n p) h = absurd (false≢true h)
+
+directory-no-file : (e : Entry) → isDirectory e ≡ true → isFile e ≡ false
+directory-no-file free h = refl
+directory-no-file (file n p c) h = absurd (false≢true h)
+directory-no-file (directory n p) h = refl
+
+-- in a well-formed volume a file has no children
+file-childless : (n b : ℕ) (v : Volume) → wellFormed n b v ≡ true → (o : ℕ) → isFile (entryAt v o) ≡ true → hasChildren v o ≡ false
+file-childless n b v w o h = no-children v o (λ i lt. go i (isChild v o i) refl)
+  where
+    go : (i : ℕ) (t : Bool) → isChild v o i ≡ t → t ≡ false
+    go i true e =
+        let a = and-eq-true-iff (not (eqb i 0)) _ .0 e in
+        let u = and-eq-true-iff (isUsed (entryAt v i)) _ .0 (a .1) in
+        let dir = well-formed-sound n b v w .parent i (eqb-false i 0 (not-true _ (a .0))) (u .0) in
+        let here : isDirectory (entryAt v o) ≡ true = subst (λ (k : ℕ). isDirectory (entryAt v k) ≡ true) (eqb-true _ _ (u .1)) dir in
+        sym here ∙ file-no-directory (entryAt v o) h
+    go i false e = refl
+
+-- a table of a remove that gives 11: the row of 11 holds, and that of 9 does not
+eleven : (a b c d e f g h i j : Bool)
+    → firstNumber (row 3 a ∷ row 4 b ∷ row 5 c ∷ row 6 d ∷ row 7 e ∷ row 8 f ∷ row 9 g ∷ row 11 h ∷ row 13 i ∷ row 14 j ∷ []) ≡ 11 → (g ≡ false) × (h ≡ true)
+unfolding firstNumber
+eleven true b c d e f g h i j z = absurd (omega arith)
+eleven false true c d e f g h i j z = absurd (omega arith)
+eleven false false true d e f g h i j z = absurd (omega arith)
+eleven false false false true e f g h i j z = absurd (omega arith)
+eleven false false false false true f g h i j z = absurd (omega arith)
+eleven false false false false false true g h i j z = absurd (omega arith)
+eleven false false false false false false true h i j z = absurd (omega arith)
+eleven false false false false false false false true i j z = (refl, refl)
+eleven false false false false false false false false true j z = absurd (omega arith)
+eleven false false false false false false false false false true z = absurd (omega arith)
+eleven false false false false false false false false false false z = absurd (omega arith)
+
+module _ (g : Geometry) (x : Model) (p d : ℕ) (n : List ℕ) (o : ℕ) (l : Leads x p d n o) where
+  -- the first number of a remove's table is the answer
+  refused-by : (takes : Entry → Bool) (c : Call) (k : ℕ) → firstNumber (programRows (x .log) p ++ (removeRows takes (x .view) d n ++ roomRows g c x)) ≡ k → (k ≡ 0 → ⊥)
+      → removeOf g c takes p d n x ≡ refusal k c
+  unfolding removeOf
+  refused-by takes c k e z =
+      let rows = programRows (x .log) p ++ (removeRows takes (x .view) d n ++ roomRows g c x) in
+      unless-refuses c rows _ k (first-lowest 0 rows refl ∙ e) z
+
+  -- "Refusal 9 covers the wrong choice and comes before 11", and before 13 and 14
+  wrong-choice : (takes : Entry → Bool) (c : Call) → takes (entryAt (x .view) o) ≡ false → removeOf g c takes p d n x ≡ refusal Returned.wrongKind c
+  unfolding firstNumber
+  wrong-choice takes c h =
+      refused-by takes c 9 (rw (l .program, l .unmarked, l .text, l .number, directory-used (entryAt (x .view) d) (l .parent), l .parent, l .found, h)) (λ z. omega arith)
+
+  -- a directory by remove file, filled or not
+  pub directory-kept : isDirectory (entryAt (x .view) o) ≡ true → answerOf g (removeFile p d n) x ≡ refusal Returned.wrongKind (removeFile p d n)
+  unfolding answerOf
+  directory-kept h = wrong-choice isFile (removeFile p d n) (directory-no-file (entryAt (x .view) o) h)
+
+  -- a file by remove directory
+  pub file-kept : isFile (entryAt (x .view) o) ≡ true → answerOf g (removeDirectory p d n) x ≡ refusal Returned.wrongKind (removeDirectory p d n)
+  unfolding answerOf
+  file-kept h = wrong-choice isDirectory (removeDirectory p d n) (file-no-directory (entryAt (x .view) o) h)
+
+  -- a filled directory by remove directory
+  pub filled-kept : isDirectory (entryAt (x .view) o) ≡ true → hasChildren (x .view) o ≡ true
+      → answerOf g (removeDirectory p d n) x ≡ refusal Returned.notEmpty (removeDirectory p d n)
+  unfolding answerOf firstNumber
+  filled-kept h k =
+      refused-by isDirectory (removeDirectory p d n) 11
+      (rw (l .program, l .unmarked, l .text, l .number, directory-used (entryAt (x .view) d) (l .parent), l .parent, l .found, h, k)) (λ z. omega arith)
+
+module _ (g : Geometry) (x : Model) (s : Sound g x) (p d : ℕ) (n : List ℕ) where
+  kind-removed : (takes : Entry → Bool) (c : Call) → issues (x .view) c ≡ removes (x .view) d n → removeOf g c takes p d n x .returned ≡ 0 → Removable x takes d n
+  unfolding removeOf
+  kind-removed takes c i e =
+      let r = change-passed g c p (removeRows takes (x .view) d n) x refl e .1 in
+      let f = remove-accepted g x s takes p d n c i e in
+      let other = neither (not (isDirectory (entryAt (x .view) d))) (ofFound (search (x .view) d n) (λ o. not (takes (entryAt (x .view) o)))) (r .1 .1 .1 .1 .0) .1 in
+      record {
+        object = f .0;
+        found = f .1;
+        kind = not-false _ (ap (λ (o : Option ℕ). ofFound o (λ i. not (takes (entryAt (x .view) i)))) (sym (f .1)) ∙ other);
+        empty = ap (λ (o : Option ℕ). ofFound o (hasChildren (x .view))) (sym (f .1)) ∙ r .1 .1 .1 .1 .1 .0;
+      }
+
+  -- "Remove file takes only files"
+  pub file-removed : answerOf g (removeFile p d n) x .returned ≡ 0 → Removable x isFile d n
+  unfolding answerOf
+  file-removed e = kind-removed isFile (removeFile p d n) refl e
+
+  -- "remove directory only empty directories"
+  pub directory-removed : answerOf g (removeDirectory p d n) x .returned ≡ 0 → Removable x isDirectory d n
+  unfolding answerOf
+  directory-removed e = kind-removed isDirectory (removeDirectory p d n) refl e
+
+  -- so remove file never says "not empty": in a well-formed volume a file has no children
+  pub file-never-full : answerOf g (removeFile p d n) x .returned ≡ Returned.notEmpty → ⊥
+  unfolding answerOf removeOf
+  file-never-full e =
+      let rows = programRows (x .log) p ++ (removeRows isFile (x .view) d n ++ roomRows g (removeFile p d n) x) in
+      let first : firstNumber rows ≡ 11 = sym (first-lowest 0 rows refl) ∙ unless-number (removeFile p d n) rows _ 11 refl (λ z. omega arith) e in
+      let k = eleven _ _ _ _ _ _ _ _ _ _ first in
+      go (search (x .view) d n) refl (neither (not (isDirectory (entryAt (x .view) d))) _ (k .0) .1) (k .1)
+    where
+      go : (f : Option ℕ) → search (x .view) d n ≡ f → ofFound f (λ o. not (isFile (entryAt (x .view) o))) ≡ false → ofFound f (hasChildren (x .view)) ≡ true → ⊥
+      go none is h k = false≢true k
+      go (some o) is h k = false≢true (sym (file-childless (g .objects) (g .blocks) (x .view) (s .view) o (not-false _ h)) ∙ k)

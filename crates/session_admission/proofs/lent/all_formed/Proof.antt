@@ -1,0 +1,52 @@
+-- `session_admission::lent::all_formed` meets its contract. Assumes nothing.
+use mathlib.Core.Path.{sym, _∙_}
+use Rattle.volume_tree.specs.Stored.{formed}
+use Rattle.log.specs.Stored.{formedLog}
+use Rattle.session_admission.specs.Laws.Admitted.{at-third, at-second, at-first}
+use borrow.Author.Needs.{needs}
+use Rattle.session_admission.proofs.lent.all_formed.Statement.{statement}
+use Rattle.session_admission.proofs.lent.all_formed.Tie as tie
+
+well-formed-requires : tie.Need-well-formed-requires
+well-formed-requires c κs = search needs
+
+well-formed-requires-2 : tie.Need-well-formed-requires-2
+well-formed-requires-2 c κs = search needs
+
+log-formed-requires : tie.Need-log-formed-requires
+log-formed-requires c κs = search needs
+
+returns : tie.Need-returns
+returns c =
+    let second = c .before .before in
+    let first = second .before .before in
+    let a = first .before .before .before .before .args in
+    c .log-formed .ensures
+    ∙ at-third (formed (a .n) (a .b) (a .server .now)) (formed (a .n) (a .b) (a .view .now)) (formedLog (a .n) (a .b) (a .m) (a .log .now))
+    (sym (first .well-formed .ensures) ∙ second .before .if1 .taken) (sym (second .well-formed2 .ensures) ∙ c .before .if2 .taken)
+
+returns-2 : tie.Need-returns-2
+returns-2 c =
+    let second = c .before in
+    let first = second .before .before in
+    let a = first .before .before .before .before .args in
+    at-second (formed (a .n) (a .b) (a .server .now)) (formed (a .n) (a .b) (a .view .now)) (formedLog (a .n) (a .b) (a .m) (a .log .now))
+    (sym (first .well-formed .ensures) ∙ second .before .if1 .taken) (sym (second .well-formed2 .ensures) ∙ c .if2 .left)
+
+returns-3 : tie.Need-returns-3
+returns-3 c =
+    let first = c .before in
+    let a = first .before .before .before .before .args in
+    at-first (formed (a .n) (a .b) (a .server .now)) (formed (a .n) (a .b) (a .view .now)) (formedLog (a .n) (a .b) (a .m) (a .log .now))
+    (sym (first .well-formed .ensures) ∙ c .if1 .left)
+
+pub all-formed-spec : {M : Type 1} → statement M
+all-formed-spec =
+    tie.close
+    (tie.spec
+    well-formed-requires
+    well-formed-requires-2
+    log-formed-requires
+    returns
+    returns-2
+    returns-3)

@@ -1,3 +1,0 @@
-pub mod SlotLaws
-pub mod ProgramLaws
-pub mod HeadLaws

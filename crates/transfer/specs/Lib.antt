@@ -1,3 +1,0 @@
-pub mod CutLaws
-pub mod PushLaws
-pub mod SyncLaws

@@ -1,0 +1,1 @@
+// Operations on a volume (document 01, "Calls" and "Returned numbers"): when one applies and what it leaves; definitions and laws, in specs/.

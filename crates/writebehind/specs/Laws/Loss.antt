@@ -1,0 +1,36 @@
+-- What the reader told is what is answered of the record that begins at the place. Assumes nothing.
+use Prim.Native.Nat.{ℕ}
+use mathlib.Core.Path.{_≡_, refl, sym, ap, _∙_}
+use mathlib.Core.List.{List, [], _∷_}
+use mathlib.Core.Option.{Option, none, some}
+use lib.ListN.{drop}
+use Rattle.record.specs.Operation.{Record}
+use Rattle.record.specs.Decode.{decodeRecord}
+use Rattle.record.specs.Laws.Decode.{decode-sound, decode-encoded}
+use Rattle.record_reader.specs.declared.Reading.{Reading}
+use Rattle.record_reader.specs.declared.Reading.the-variants.{Is, Bad}
+use Rattle.record_reader.specs.Answer.{Exact, read, refused, readingNumber, readingResults}
+use Rattle.writebehind.specs.declared.loss.Loss.{Loss}
+use Rattle.writebehind.specs.Loss.{noLoss, lossIn, lossOf}
+
+-- by cases of what was read
+abbrev pub lossRead : Reading → Loss
+lossRead (Is w) = lossIn w
+lossRead Bad = noLoss
+
+pub read-loss : (s : List ℕ) (at : ℕ) (x : Reading) → Exact s at x → lossRead x ≡ lossOf at (decodeRecord (drop at s))
+read-loss s at (Is w) (read r rest good e) = ap (lossOf at) (sym (ap decodeRecord e ∙ decode-encoded r rest good))
+read-loss s at Bad (refused never) = go (decodeRecord (drop at s)) refl
+  where
+    go : (o : Option Record) → decodeRecord (drop at s) ≡ o → noLoss ≡ lossOf at (decodeRecord (drop at s))
+    go none e = ap (lossOf at) (sym e)
+    go (some r) e = let d = decode-sound (drop at s) r e in absurd (never r (d .1 .0) (d .0) (d .1 .1))
+
+-- Its number and first results are those that the reader's answer has.
+pub loss-number : (x : Reading) → lossRead x .returned ≡ readingNumber x
+loss-number (Is w) = refl
+loss-number Bad = refl
+
+pub loss-results : (x : Reading) → lossRead x .next ∷ lossRead x .sequence ∷ lossRead x .program ∷ lossRead x .kind ∷ [] ≡ readingResults x
+loss-results (Is w) = refl
+loss-results Bad = refl

@@ -1,4 +1,0 @@
-pub mod FileLaws
-pub mod ListLaws
-pub mod WriteLaws
-pub mod CallLaws
