@@ -94,7 +94,7 @@ extern "C" {
 #define WB_LAST_SEQUENCE 4294967294     /* the greatest sequence number */
 #define WB_STACK_BYTES 40960            /* the most that a call takes; measured: 33,488 (host/stack) */
 
-/* The stored form (document 01): a volume is n entries, a log is a head and m slots. The bytes of a field stand in brackets. */
+/* The stored form: a volume is n entries, a log is a head and m slots. The bytes of a field stand in brackets. */
 #define WB_ENTRY_HEAD_BYTES 68  /* an entry up to its data: kind (1), name length (1), parent (2), name (60), file length (4) */
 #define WB_LOG_HEAD_BYTES 8     /* next sequence number (4), marked programs (4) */
 #define WB_SLOT_BYTES 1048      /* state (1), 3 zero bytes, dependents (4), a loss record, zeros */
