@@ -5,8 +5,6 @@ ghost use Rattle.log_operands.specs.Code.Ordering.{Ordering, Sized, Told
 ghost use Rattle.log_operands.specs.Code.Reading.{plain, Limited, Few, Gathered, read};
 use buffer::span::stretch_of;
 use record::kind::Kind;
-use record::list::object_of;
-use record::valid::stands;
 use record_reader::Head;
 use record_reader::Headed;
 use record_reader::ObjectFields;
@@ -14,6 +12,8 @@ use record_reader::Objects;
 use record_reader::Place;
 use record_reader::Range;
 use record_reader::RangeFields;
+use record_valid::list::object_of;
+use record_valid::valid::stands;
 
 // What the order of an operation goes by: its operands and, of an overwrite, where it writes.
 pub struct Order {

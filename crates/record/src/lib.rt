@@ -1,4 +1,2 @@
-// Loss records (document 01, "Loss record"): the kinds with their codes and maps, lists of objects, and what is valid.
+// Loss records (document 01, "Loss record"): the kinds with their codes and maps.
 pub mod kind;
-pub mod list;
-pub mod valid;

@@ -5,9 +5,9 @@ ghost use Rattle.record_reader.specs.Code.Fit.{belowIf, objectsBelow, fi
 use crate::Objects;
 use crate::Whole;
 use buffer::span::stretch_of;
-use record::list::list_below;
-use record::valid::stands;
-use record::valid::within_blocks;
+use record_valid::list::list_below;
+use record_valid::valid::stands;
+use record_valid::valid::within_blocks;
 
 // Whether an object is below n, where its bit stands.
 fn below_if(n: usize, map: usize, weight: usize, object: usize) -> bool

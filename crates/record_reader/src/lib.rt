@@ -15,12 +15,12 @@ use names::NameText;
 use names::name_text;
 use record::kind::Coded;
 use record::kind::Kind;
-use record::list::good_list;
-use record::valid::differ;
-use record::valid::in_block;
-use record::valid::in_limits;
-use record::valid::stands;
-use record::valid::valid_head;
+use record_valid::list::good_list;
+use record_valid::valid::differ;
+use record_valid::valid::in_block;
+use record_valid::valid::in_limits;
+use record_valid::valid::stands;
+use record_valid::valid::valid_head;
 
 pub mod fit;
 

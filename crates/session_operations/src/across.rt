@@ -3,7 +3,7 @@ ghost use mathlib.Core.List.{[], _∷_};
 ghost use Rattle.record.specs.Operation.{Operation};
 ghost use Rattle.volume_tree.specs.Stored.{readVolume};
 ghost use Rattle.log.specs.Stored.{readLog};
-ghost use Rattle.log_issue.specs.Code.Issued.{AllIssued};
+ghost use Rattle.log_draft.specs.Code.Issued.{AllIssued};
 ghost use Rattle.session_change.specs.Code.Change.{MayIssue};
 use log_issue::issue_range;
 use record::kind::Kind;

@@ -6,7 +6,7 @@ ghost use lib.ListN.{length};
 ghost use Rattle.volume_tree.specs.Stored.{readVolume};
 ghost use Rattle.log.specs.Stored.{readLog};
 ghost use Rattle.session.specs.Issue.{writesAt};
-ghost use Rattle.log_issue.specs.Code.Issued.{AllIssued};
+ghost use Rattle.log_draft.specs.Code.Issued.{AllIssued};
 ghost use Rattle.session_change.specs.Code.Change.{MayIssue};
 use crate::across::issue_across;
 use log_issue::issue_range;

@@ -1,6 +1,5 @@
 pub mod Entry
 pub mod Cases
 pub mod Stored
-pub mod Code
 pub mod Write
 pub mod Laws

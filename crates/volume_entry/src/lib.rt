@@ -1,4 +1,4 @@
-// An entry of a volume (document 01, "Geometry and stored form"): its fields, its form, and what is written of it.
+// An entry of a volume (document 01, "Geometry and stored form"): its fields, and what is written of it.
 
 // "n entries of 68 + 1,024 × b bytes": where the file length and the data begin in an entry.
 pub const LENGTH_AT: usize = 64;
@@ -13,5 +13,4 @@ pub const FILE: usize = 1;
 pub const DIRECTORY: usize = 2;
 
 pub mod field;
-pub mod form;
 pub mod write;

@@ -2,8 +2,8 @@
 ghost use mathlib.Core.Path.{_≡_};
 ghost use Rattle.volume_tree.specs.Code.Lent.{Lent};
 ghost use Rattle.volume_form.specs.Code.Checks.{entriesFormed};
-use volume_entry::form::entry_formed;
-use volume_entry::form::root_formed;
+use volume_entry_form::entry_formed;
+use volume_entry_form::root_formed;
 use volume_tree::entries::entry;
 
 // Whether the root and each other entry are well formed by themselves.

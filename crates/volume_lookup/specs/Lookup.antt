@@ -6,10 +6,10 @@ use mathlib.Core.Option.{Option, none, some}
 use Rattle.returned.specs.Returned
 use Rattle.names.specs.declared.NameText.{NameText}
 use Rattle.names.specs.declared.NameText.the-variants.{Fine, Bad, Long}
-use Rattle.names.specs.declared.PathText.{PathText}
-use Rattle.names.specs.declared.PathText.the-variants.{Bad as BadPath, Root, Components}
+use Rattle.paths.specs.declared.PathText.{PathText}
+use Rattle.paths.specs.declared.PathText.the-variants.{Bad as BadPath, Root, Components}
 use Rattle.names.specs.Name.{nameTextOf, nameNumber}
-use Rattle.names.specs.Path.{pathTextOf, components}
+use Rattle.paths.specs.Path.{pathTextOf, components}
 use Rattle.volume_entry.specs.Entry.{isDirectory}
 use Rattle.volume_tree.specs.declared.search.Found.the-variants.{At, Nothing}
 use Rattle.volume_tree.specs.Volume.{Volume, entryAt, search}

@@ -4,10 +4,10 @@ use native.Mathlib.Nat.{pow-suc, pow-zero}
 use native.Mathlib.Numerals.{add-one}
 use native.Mathlib.Omega.{arith}
 use native.Mathlib.Decide.{decLt}
-use mathlib.Core.Path.{_≡_, refl, ap, _∙_}
+use mathlib.Core.Path.{_≡_, refl, sym, ap, _∙_}
 use mathlib.Core.List.{List, [], _∷_}
-use lib.ListN.{length, getD, take, drop, length-take, List·getD-eq-default}
-use lib.Seq.{drop-cons, getD-take, getD-drop}
+use lib.ListN.{length, getD, take, drop, length-take, length-drop, List·getD-eq-default}
+use lib.Seq.{drop-cons, getD-take, getD-drop, length-take-le}
 use Rattle.buffer.specs.Numeral.{bytes, numeral, Bytes}
 
 pub length-bytes : (w v : ℕ) → length (bytes w v) ≡ w
@@ -83,3 +83,10 @@ bytes-part s n at h i = go (decLt i n)
     go : Dec (i < n) → getD (take n (drop at s)) i 0 < 256
     go (yes k) = rw (getD-take n (drop at s) i 0 k, getD-drop at s i 0) (h (at + i))
     go (no k) = rw (List·getD-eq-default (take n (drop at s)) 0 {n = i} (rw (length-take n (drop at s)) (omega arith))) (omega arith)
+
+-- The bytes at a place are those of the number that they store.
+pub number-back : (w at : ℕ) (s : List ℕ) → at + w ≤ length s → Bytes s → bytes w (numeral (take w (drop at s))) ≡ take w (drop at s)
+number-back w at s h byte =
+    let r = take w (drop at s) in
+    let l : length r ≡ w = length-take-le w (drop at s) (rw (length-drop at s) (omega arith)) in
+    ap (λ (n : ℕ). bytes n (numeral r)) (sym l) ∙ bytes-numeral r (bytes-part s w at byte)

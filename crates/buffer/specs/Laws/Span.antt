@@ -7,6 +7,10 @@ use mathlib.Core.List.{List, [], _++_, append-assoc}
 use lib.ListN.{length, take, drop, length-append, length-drop, take-append-drop, drop-of-length-le}
 use lib.Seq.{drop-drop, drop-append-seam, take-append-seam, take-nil, take-all}
 
+-- The bytes from a place on, as many as there are, are all bytes from there on.
+pub take-rest : (n : ℕ) (s : List ℕ) → take (length s - n) (drop n s) ≡ drop n s
+take-rest n s = take-all (length s - n) (drop n s) (omega (arith, length-drop n s))
+
 -- the bytes w stand at a place, and q is the place after them
 pub record Spans (s : List ℕ) (at : ℕ) (w : List ℕ) (q : ℕ) : Type 0 where
   pub begins : drop at s ≡ w ++ drop q s

@@ -9,7 +9,7 @@ use lib.ListN.{length, take, drop, length-drop}
 use borrow.Author.Needs.{needs}
 use borrow.Author.Tests.{le-leb, lt-leb}
 use Rattle.buffer.specs.Numeral.{numeral, Bytes}
-use Rattle.volume_entry.specs.Laws.Test.{take-rest}
+use Rattle.buffer.specs.Laws.Span.{take-rest}
 use Rattle.log.specs.Stored.{headBytes, slotBytes, lentLog, formedLog}
 use Rattle.volume_tree.specs.Laws.Answer.{settled}
 use Rattle.log_form.specs.Code.Checks.{slotsFormed, logFormed}

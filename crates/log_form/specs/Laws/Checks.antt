@@ -12,10 +12,9 @@ use borrow.Author.Tests.{leb-true, le-leb, eqb-true, eqb-false}
 use Rattle.buffer.specs.Decoded.{isSome}
 use Rattle.buffer.specs.Laws.Test.{same-test}
 use Rattle.buffer.specs.Numeral.{bytes, numeral, Bytes}
-use Rattle.buffer.specs.Laws.Numeral.{bytes-part}
+use Rattle.buffer.specs.Laws.Numeral.{bytes-part, number-back}
 use Rattle.buffer.specs.Code.Zero.{zeros}
 use Rattle.buffer.specs.Laws.Zero.{zeros-replicate, replicate-zeros}
-use Rattle.volume_entry.specs.Laws.Check.{number-back}
 use Rattle.volume_entry.specs.Stored.{padded}
 use Rattle.log.specs.Slot.{State, waiting, lost, stateNumber, Slot, Log, isWaiting, sequenceOf, goodSlots, wellFormedLog}
 use Rattle.log.specs.Stored.{headBytes, slotBytes, logBytes, encodeSlot, encodeSlots, encodeLog, readLog, decodeLog}

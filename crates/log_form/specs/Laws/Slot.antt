@@ -10,7 +10,7 @@ use lib.Dec.{eqb}
 use borrow.Author.Tests.{eqb-true}
 use Rattle.log_slots.specs.Laws.Slot.{record-held}
 use Rattle.buffer.specs.Numeral.{bytes, numeral, Bytes}
-use Rattle.buffer.specs.Laws.Numeral.{numeral-below, bytes-part}
+use Rattle.buffer.specs.Laws.Numeral.{numeral-below, bytes-part, number-back}
 use Rattle.buffer.specs.Code.Zero.{zeros}
 use Rattle.buffer.specs.Laws.Zero.{zeros-replicate, replicate-zeros}
 use Rattle.record.specs.Operation.{Record}
@@ -26,7 +26,6 @@ use Rattle.record_reader.specs.Laws.Complete.{record-complete}
 use Rattle.record_reader.specs.Laws.Exact.{decode-encode}
 use Rattle.record_reader.specs.Laws.Fit.{fits-read}
 use Rattle.volume_entry.specs.Stored.{padded}
-use Rattle.volume_entry.specs.Laws.Check.{number-back}
 use Rattle.log.specs.Slot.{State, waiting, lost, stateNumber, Slot, isWaiting, sequenceOf}
 use Rattle.log.specs.Stored.{slotBytes, dependentsAt, recordStart, recordBytes, encodeSlot}
 use Rattle.log.specs.Laws.Slot.{GoodSlot}

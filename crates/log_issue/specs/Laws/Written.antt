@@ -15,9 +15,8 @@ use Rattle.log.specs.Laws.Stored.{length-slots}
 use Rattle.log.specs.Laws.Geometry.{head-part, used-bytes, logged-parts, used-good}
 use Rattle.log.specs.Code.Slots.{Logged, usedIn}
 use Rattle.log_draft.specs.Code.Draft.{drafted}
-use Rattle.log_draft.specs.Code.Issued.{Issuable, Placed, Ready}
+use Rattle.log_draft.specs.Code.Issued.{Issuable, Placed, Ready, Kept, Room}
 use Rattle.log_draft.specs.Laws.Draft.{head-long}
-use Rattle.log_issue.specs.Code.Issued.{Kept, Room}
 use Rattle.volume_tree.specs.Volume.{Volume}
 use Rattle.record_writer.specs.Code.Writer.{Writable, Written}
 

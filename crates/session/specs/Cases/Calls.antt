@@ -8,7 +8,7 @@ use mathlib.Core.Option.{Option, none, some}
 use lib.ListN.{replicate}
 use lib.Dec.{eqb}
 use Rattle.names.specs.Name.{permittedByte, allPermitted, isDots, goodText, nameTextOf, lowerCase, sameName}
-use Rattle.names.specs.Path.{pathTextOf, onFirst, split, components}
+use Rattle.paths.specs.Path.{pathTextOf, onFirst, split, components}
 use Rattle.record.specs.Kind.{kindOfCode}
 use Rattle.buffer.specs.Numeral.{bytes, numeral}
 use Rattle.record.specs.Operation.{Operation, Record, forder as forderOperation, operands}

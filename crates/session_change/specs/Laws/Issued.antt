@@ -18,9 +18,8 @@ use Rattle.session.specs.Effect.{Effect, note, issue, perform, performAll, issu
 use Rattle.session.specs.Step.{given, encodeModel, step}
 use Rattle.session.specs.Laws.Issue.{record-good}
 use Rattle.session.specs.Laws.Issuing.{Issuing, issuing-rest}
-use Rattle.log_draft.specs.Code.Issued.{Issuable, Issued}
-use Rattle.log_issue.specs.Code.Issued.{Room, issuedAll, appliedAll, AllIssued}
-use Rattle.log_issue.specs.Laws.Issued.{issued-logged, issued-read, issued-formed, issued-view, one-issued, more-issued}
+use Rattle.log_draft.specs.Code.Issued.{Issuable, Issued, Room, issuedAll, appliedAll, AllIssued}
+use Rattle.log_draft.specs.Laws.Issued.{issued-logged, issued-read, issued-formed, issued-view, one-issued, more-issued}
 use Rattle.session_admission.specs.Code.Admitted.{modelIn, Admitted}
 use Rattle.session_admission.specs.Laws.Admitted.{formed-admitted}
 use Rattle.session_admission.specs.Laws.Turn.{accepted}

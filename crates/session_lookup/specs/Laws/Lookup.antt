@@ -9,9 +9,9 @@ use lib.Seq.{getD-set-same, getD-set-other}
 use lib.Dec.{eqb, ltb}
 use borrow.Author.Tests.{eqb-true, eqb-false, ltb-true, lt-ltb}
 use Rattle.buffer.specs.Laws.Zero.{zeros-at}
-use Rattle.names.specs.declared.PathText.{PathText}
-use Rattle.names.specs.declared.PathText.the-variants.{Bad, Root, Components}
-use Rattle.names.specs.Path.{pathTextOf, components}
+use Rattle.paths.specs.declared.PathText.{PathText}
+use Rattle.paths.specs.declared.PathText.the-variants.{Bad, Root, Components}
+use Rattle.paths.specs.Path.{pathTextOf, components}
 use Rattle.record.specs.Fields.{member, allBelow}
 use Rattle.volume_tree.specs.Volume.{Volume}
 use Rattle.volume_tree.specs.Stored.{readVolume}

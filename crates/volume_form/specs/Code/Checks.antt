@@ -5,7 +5,7 @@ use mathlib.Core.Bool.{Bool, not, _&&_, _||_}
 use lib.ListN.{length, getD}
 use lib.Dec.{eqb}
 use Rattle.volume_entry.specs.Entry.{isUsed, isDirectory, parentOf}
-use Rattle.volume_entry.specs.Code.Check.{entryFormed, rootFormed}
+use Rattle.volume_entry_form.specs.Code.Check.{entryFormed, rootFormed}
 use Rattle.volume_tree.specs.Volume.{Volume, entryAt, every}
 use Rattle.volume_tree.specs.Code.Lent.{entryPart}
 

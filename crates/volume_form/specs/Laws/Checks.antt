@@ -15,8 +15,8 @@ use Rattle.buffer.specs.Numeral.{Bytes}
 use Rattle.buffer.specs.Laws.Numeral.{bytes-part}
 use Rattle.volume_entry.specs.Entry.{Entry, free, file, directory, root, isUsed, isDirectory, nameOf, parentOf, contentsOf}
 use Rattle.volume_entry.specs.Stored.{entryBytes, encodeEntry, readEntry}
-use Rattle.volume_entry.specs.Code.Check.{entryFormed, rootFormed, sound}
-use Rattle.volume_entry.specs.Laws.Check.{formed-root, root-formed, formed-entry, entry-formed}
+use Rattle.volume_entry_form.specs.Code.Check.{entryFormed, rootFormed, sound}
+use Rattle.volume_entry_form.specs.Laws.Check.{formed-root, root-formed, formed-entry, entry-formed}
 use Rattle.volume_tree.specs.Volume.{Volume, entryAt, every, isChild}
 use Rattle.volume_tree.specs.Form.{climbs, placed, twins}
 use Rattle.volume_tree.specs.Laws.Form.{every-inv, every-intro, Placed, placed-inv, placed-intro, Good, well-formed-inv, good-well-formed}

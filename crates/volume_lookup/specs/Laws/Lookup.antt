@@ -11,11 +11,11 @@ use lib.Dec.{leb}
 use borrow.Author.Tests.{le-leb, lt-leb}
 use Rattle.names.specs.declared.NameText.{NameText}
 use Rattle.names.specs.declared.NameText.the-variants.{Fine, Bad, Long}
-use Rattle.names.specs.declared.PathText.{PathText}
-use Rattle.names.specs.declared.PathText.the-variants.{Bad as BadPath, Root, Components}
+use Rattle.paths.specs.declared.PathText.{PathText}
+use Rattle.paths.specs.declared.PathText.the-variants.{Bad as BadPath, Root, Components}
 use Rattle.names.specs.Name.{nameTextOf, nameNumber}
-use Rattle.names.specs.Path.{pathNumber, componentAt, split, components}
-use Rattle.names.specs.Laws.Path.{split-place}
+use Rattle.paths.specs.Path.{pathNumber, componentAt, split, components}
+use Rattle.paths.specs.Laws.Path.{split-place}
 use Rattle.volume_entry.specs.Entry.{isDirectory}
 use Rattle.volume_tree.specs.Volume.{Volume, entryAt, search}
 use Rattle.volume_tree.specs.Laws.Search.{search-found}

@@ -13,7 +13,7 @@ use Rattle.record_reader.specs.declared.Whole.{Whole}
 use Rattle.record_reader.specs.declared.Reading.the-variants.{Is as RecordIs, Bad as NoRecord}
 use Rattle.record_reader.specs.Code.Reader.{recordAt}
 use Rattle.record_reader.specs.Code.Fit.{fitsWhole}
-use Rattle.volume_entry.specs.Laws.Test.{take-rest}
+use Rattle.buffer.specs.Laws.Span.{take-rest}
 use Rattle.volume_tree.specs.Laws.Answer.{settled}
 use Rattle.log.specs.Stored.{recordStart}
 use Rattle.log_form.specs.declared.slot.SlotForm.the-variants.{Is, Bad}

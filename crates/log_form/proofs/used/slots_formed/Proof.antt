@@ -10,7 +10,7 @@ use lib.ListN.{length, getD, take, drop, length-drop}
 use lib.Seq.{length-take-le, drop-drop, getD-drop}
 use borrow.Author.Needs.{needs}
 use Rattle.buffer.specs.Code.Zero.{zeros}
-use Rattle.volume_entry.specs.Laws.Test.{take-rest}
+use Rattle.buffer.specs.Laws.Span.{take-rest}
 use Rattle.log.specs.Stored.{slotBytes}
 use Rattle.log.specs.Code.Slots.{slotPart}
 use Rattle.volume_tree.specs.Laws.Answer.{settled}

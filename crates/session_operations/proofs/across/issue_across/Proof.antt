@@ -8,7 +8,7 @@ use Rattle.log.specs.Stored.{readLog}
 use Rattle.session.specs.Call.{geometry}
 use Rattle.session.specs.Laws.Issuing.{Issuing}
 use Rattle.session_admission.specs.Code.Admitted.{modelIn, Admitted}
-use Rattle.log_issue.specs.Laws.Issued.{one-issued}
+use Rattle.log_draft.specs.Laws.Issued.{one-issued}
 use Rattle.session_change.specs.Laws.Issued.{issuing-room, issuing-able, issued-admitted, issued-rest, issued-then}
 use borrow.Author.Needs.{needs}
 use Rattle.session_operations.proofs.across.issue_across.Statement.{statement}

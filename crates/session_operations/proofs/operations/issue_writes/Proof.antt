@@ -11,8 +11,8 @@ use Rattle.volume_tree.specs.Stored.{readVolume}
 use Rattle.log.specs.Stored.{readLog}
 use Rattle.session.specs.Issue.{writesAt}
 use Rattle.session.specs.Laws.Write.{writes-append, writes-overwrite}
-use Rattle.log_issue.specs.Code.Issued.{AllIssued}
-use Rattle.log_issue.specs.Laws.Issued.{one-issued}
+use Rattle.log_draft.specs.Code.Issued.{AllIssued}
+use Rattle.log_draft.specs.Laws.Issued.{one-issued}
 use Rattle.session_change.specs.Code.Change.{MayIssue}
 use Rattle.session_change.specs.Laws.Issued.{issuing-room, issuing-able}
 use Rattle.session_operations.specs.Laws.Write.{parts-written}

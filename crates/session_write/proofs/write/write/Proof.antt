@@ -12,7 +12,7 @@ use Rattle.session.specs.Issue.{writesAt, writes}
 use Rattle.session.specs.Laws.Write.{writes-few}
 use Rattle.session_admission.specs.Code.Admitted.{Admitted}
 use Rattle.session_admission.specs.Laws.Admitted.{admitted}
-use Rattle.log_issue.specs.Code.Issued.{AllIssued}
+use Rattle.log_draft.specs.Code.Issued.{AllIssued}
 use Rattle.session_change.specs.Code.Change.{Change, MayIssue}
 use Rattle.session_change.specs.Laws.Change.{lent-refuses, change-refuses}
 use Rattle.session_change.specs.Laws.Issued.{changed-outcome}

@@ -8,7 +8,7 @@ use native.Mathlib.Omega.{arith}
 use lib.Dec.{eqb}
 use borrow.Author.Count.{below-more}
 use borrow.Author.Tests.{ne-eqb}
-use Rattle.volume_entry.specs.Code.Check.{entryFormed, rootFormed}
+use Rattle.volume_entry_form.specs.Code.Check.{entryFormed, rootFormed}
 use Rattle.volume_tree.specs.Volume.{every}
 use Rattle.volume_tree.specs.Code.Lent.{entryPart}
 use Rattle.volume_tree.specs.Laws.Lent.{entry-long}

@@ -6,10 +6,10 @@ use mathlib.Core.List.{List}
 use native.Mathlib.Omega.{arith}
 use lib.ListN.{set}
 use borrow.Author.Needs.{needs}
-use Rattle.names.specs.declared.PathText.{PathText}
-use Rattle.names.specs.declared.PathText.the-variants.{Bad, Root, Components}
-use Rattle.names.specs.Path.{pathTextOf, components}
-use Rattle.names.specs.Laws.Path.{components-path}
+use Rattle.paths.specs.declared.PathText.{PathText}
+use Rattle.paths.specs.declared.PathText.the-variants.{Bad, Root, Components}
+use Rattle.paths.specs.Path.{pathTextOf, components}
+use Rattle.paths.specs.Laws.Path.{components-path}
 use Rattle.volume_tree.specs.Volume.{Volume}
 use Rattle.volume_tree.specs.Stored.{readVolume}
 use Rattle.volume_lookup.specs.declared.lookup.Reached.{Reached}

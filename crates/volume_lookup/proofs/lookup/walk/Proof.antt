@@ -10,8 +10,8 @@ use lib.ListN.{length, set}
 use borrow.Author.Needs.{needs}
 use types.Run.{OneOf}
 use denote.Enum.Declared.{tagOf, declared}
-use Rattle.names.specs.Path.{components, componentAt}
-use Rattle.names.specs.Laws.Path.{component-fits}
+use Rattle.paths.specs.Path.{components, componentAt}
+use Rattle.paths.specs.Laws.Path.{component-fits}
 use Rattle.volume_tree.specs.Volume.{Volume}
 use Rattle.volume_tree.specs.Stored.{readVolume}
 use Rattle.volume_tree.specs.Laws.Lent.{length-read}
