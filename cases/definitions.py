@@ -348,9 +348,9 @@ class Translator:
         self.repository, self.waiting, self.count, self.translated, self.records = repository, [], 0, 0, {}
         self.space = {**HELPERS, 'Unclear': Unclear}
 
-    def load(self, name, crate):
+    def load(self, definition):
         """The Python function of a definition, with all that it calls."""
-        python = self.later(self.repository.defining(name, crate).definitions[name])
+        python = self.later(definition)
         while self.waiting:
             definition = self.waiting.pop()
             try:
@@ -635,6 +635,13 @@ class Player:
     def record(self, **fields):
         return self.translator.space[self.translator.record(fields)](*[fields[f] for f in sorted(fields)])
 
+    def made(self, name, arguments):
+        """A call, as the definition of its name makes it of its arguments."""
+        definition = self.translator.calls.get(self.NAMES.get(name, name))
+        if definition is None or definition.arity != len(arguments):
+            raise Unclear(f'{name}: no such call')
+        return self.translator.load(definition)(*arguments)
+
     def call(self, name, arguments):
         """The returned number, the other results, and the call's own buffer."""
         run = self.translator.entries
@@ -648,11 +655,7 @@ class Player:
         elif name == 'format':
             number, results, left = run['format'](geometry, lent[0]), (), [run['formatLeaves'](geometry, lent[0])] + lent[1:]
         else:
-            constructor = run['Call'].get(self.NAMES.get(name, name), Constructor('', 0))
-            if constructor.arity != len(arguments):
-                raise Unclear(f'{name}: no such call')
-            call = (constructor.name, *arguments)
-            result = run['mount'](geometry, buffers) if name == 'mount' else run['step'](geometry, call, buffers)
+            result = run['mount'](geometry, buffers) if name == 'mount' else run['step'](geometry, self.made(name, arguments), buffers)
             number, results, own = result.f_gives.f_returned, result.f_gives.f_results, result.f_gives.f_buffer
             left = [result.f_leaves.f_server, result.f_leaves.f_view, result.f_leaves.f_log]
         for area, before, after in zip('svl', lent, left):
@@ -690,9 +693,10 @@ def main():
     repository, start, returned, differing = Repository(chosen.root), time.time(), collections.Counter(), 0
     translator = Translator(repository)
     try:
-        entries = {name: translator.load(name, 'session') for name in ('step', 'format', 'formatLeaves', 'mount')}
-        entries.update({name: translator.load(name, 'reader') for name in ('recordAt', 'readingNumber', 'readingResults')})
-        translator.entries = {**entries, 'Call': repository.defining('step', 'session').type('Call')}
+        named = {'session': ('step', 'format', 'formatLeaves', 'mount'), 'reader': ('recordAt', 'readingNumber', 'readingResults')}
+        translator.entries = {name: translator.load(repository.defining(name, crate).definitions[name])
+                              for crate, names in named.items() for name in names}
+        translator.calls = repository.module('Rattle.session.specs.Call').definitions
     except Unclear as reason:
         print(f'not translated: {reason}')
         return 2

@@ -7,6 +7,7 @@ use lib.Dec.{eqb}
 use Rattle.record.specs.Operation.{Operation, Record}
 use Rattle.volume_tree.specs.Volume.{Volume}
 use Rattle.log.specs.Order.{needed}
+use Rattle.session.specs.Told.{Told}
 use Rattle.session.specs.Call.{Call, Answer}
 use Rattle.session.specs.Effect.{Effect, note, issue, send, discard, take, renew, effectsOf}
 use Rattle.register.specs.Replay.{replay}
@@ -129,7 +130,11 @@ unfoldable pub happenAll : List Effect → Register → Register
 happenAll [] r = r
 happenAll (e ∷ es) r = happenAll es (happen e r)
 
+-- what the register tells a call: its own replay, and the operations that wait
+abbrev pub toldBy : Register → Told
+toldBy r = record { view = viewOf r; waiting = waitingIn r }
+
 -- "A register is fed only each call's arguments, the three buffers apart, and its answers": the call's effects, its operations
 -- "completed from the replay of the sent and waiting"
 unfoldable pub feed : Call → Answer → Register → Register
-feed c a r = happenAll (effectsOf c a (viewOf r) (waitingIn r)) r
+feed c a r = happenAll (effectsOf c a (toldBy r)) r

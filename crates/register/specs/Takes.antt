@@ -6,7 +6,8 @@ use mathlib.Core.Bool.{Bool, _&&_, cond}
 use lib.ListN.{take, getD}
 use lib.Dec.{eqb}
 use Rattle.record.specs.Fields.{encode}
-use Rattle.session.specs.Call.{Call, lookup, list, stat, read, createFile, makeDirectory, removeFile, removeDirectory, rename, write, setLength, forder, push, fsync, cut, take as takeLoss, renew, Answer}
+use Rattle.session.specs.Class
+use Rattle.session.specs.Call.{Call, question, change, link, recovery, Answer}
 use Rattle.register.specs.Register.{Register, Acknowledged, isLost, chosen}
 use Rattle.register.specs.Run.{Moment}
 
@@ -19,23 +20,11 @@ lostRecords p r = map encode (chosen (lostBy p) (r .operations))
 
 -- what a call wrote of a program's losses, told from its arguments and its answer: the bytes that its take reports
 abbrev pub wrote : ℕ → Call → Answer → List (List ℕ)
-wrote p (lookup q s) a = []
-wrote p (list q o s) a = []
-wrote p (stat q o) a = []
-wrote p (read q o f s) a = []
-wrote p (createFile q d n o) a = []
-wrote p (makeDirectory q d n o) a = []
-wrote p (removeFile q d n) a = []
-wrote p (removeDirectory q d n) a = []
-wrote p (rename q d n e k) a = []
-wrote p (write q o f s) a = []
-wrote p (setLength q o f) a = []
-wrote p (forder q s) a = []
-wrote p (push q) a = []
-wrote p (fsync q o k) a = []
-wrote p cut a = []
-wrote p (takeLoss q own) a = cond (eqb (a .returned) 0 && eqb q p) (take (getD (a .results) 0 0) (a .buffer) ∷ []) []
-wrote p (renew q) a = []
+wrote p (question q s) a = []
+wrote p (change q c) a = []
+wrote p (link l) a = []
+wrote p (recovery q (Class.take own)) a = cond (eqb (a .returned) 0 && eqb q p) (take (getD (a .results) 0 0) (a .buffer) ∷ []) []
+wrote p (recovery q Class.renew) a = []
 
 -- what a program's accepted takes wrote over a list of calls, in order
 unfoldable pub fetchedBy : ℕ → List Moment → List (List ℕ)

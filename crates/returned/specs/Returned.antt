@@ -85,3 +85,7 @@ shortBuffer = 19
 -- "not one valid record at the start"
 abbrev pub badRecord : ℕ
 badRecord = 20
+
+-- "The lowest number wins": of the numbers whose reasons hold the one of the lowest rank, which is the number itself
+abbrev pub rankOf : ℕ → ℕ
+rankOf n = n

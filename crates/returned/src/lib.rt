@@ -1,6 +1,7 @@
 // What a call returns (document 01, "Returned numbers"): the numbers by name, and the shapes in which an entry hands its returned
 // number and its other results to C. The numbers' definitions are in specs/Returned.antt.
 ghost use mathlib.Core.Path.{_≡_};
+ghost use Rattle.returned.specs.Returned.{rankOf};
 ghost use Rattle.returned.specs.Shapes.{code, value, status};
 
 pub const ACCEPTED: usize = 0;
@@ -44,6 +45,13 @@ pub const LOSSES_LEFT: usize = 18;
 pub const SHORT_BUFFER: usize = 19;
 
 pub const BAD_RECORD: usize = 20;
+
+// The rank of a number: of two that refuse a call the one of the lower rank wins.
+pub fn rank(number: usize) -> usize
+    ensures { λ r. ⌜ r ≡ rankOf number ⌝ }
+{
+    number
+}
 
 // The returned number alone.
 #[repr(C)]

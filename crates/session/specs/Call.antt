@@ -8,6 +8,8 @@ use lib.Dec.{eqb}
 use Rattle.buffer.specs.Geometry.{goodObjects, goodBlocks, goodCapacity}
 use Rattle.volume_tree.specs.Stored.{volumeBytes}
 use Rattle.log.specs.Stored.{logBytes}
+use Rattle.session.specs.Class.{Question, Change, Link, Recovery}
+use Rattle.session.specs.Class
 
 -- "A caller gives n objects .., b blocks a file .. and m log slots"
 pub record Geometry : Type 0 where
@@ -27,37 +29,64 @@ pub record Buffers : Type 0 where
 abbrev pub buffers : List ℕ → List ℕ → List ℕ → Buffers
 buffers s v l = record { server = s; view = v; log = l }
 
--- each call with a program is given its number; a text, list or data is its bytes; a lent buffer is its bytes before
+-- a call with its arguments; a question, a change and a recovery are a program's, which is given by its number
 pub data Call : Type 0 where
-  -- program, path
-  lookup : ℕ → List ℕ → Call
-  -- program, object, buffer
-  list : ℕ → ℕ → List ℕ → Call
-  -- program, object
-  stat : ℕ → ℕ → Call
-  -- program, object, offset, buffer
-  read : ℕ → ℕ → ℕ → List ℕ → Call
-  -- program, parent, name, object
-  createFile makeDirectory : ℕ → ℕ → List ℕ → ℕ → Call
-  -- program, parent, name
-  removeFile removeDirectory : ℕ → ℕ → List ℕ → Call
-  -- program, parent, name, second parent, second name
-  rename : ℕ → ℕ → List ℕ → ℕ → List ℕ → Call
-  -- program, object, offset, data
-  write : ℕ → ℕ → ℕ → List ℕ → Call
-  -- program, object, new length
-  setLength : ℕ → ℕ → ℕ → Call
-  -- program, list of 2 bytes an object
-  forder : ℕ → List ℕ → Call
-  -- sequence
-  push : ℕ → Call
-  -- program, object, sends that the link still carries
-  fsync : ℕ → ℕ → ℕ → Call
-  cut : Call
-  -- program, buffer
-  take : ℕ → List ℕ → Call
-  -- program
-  renew : ℕ → Call
+  question : ℕ → Question → Call
+  change : ℕ → Change → Call
+  link : Link → Call
+  recovery : ℕ → Recovery → Call
+
+-- the calls by their names, each with its program first where it has one
+abbrev pub lookup : ℕ → List ℕ → Call
+lookup p s = question p (Class.lookup s)
+
+abbrev pub list : ℕ → ℕ → List ℕ → Call
+list p o s = question p (Class.list o s)
+
+abbrev pub stat : ℕ → ℕ → Call
+stat p o = question p (Class.stat o)
+
+abbrev pub read : ℕ → ℕ → ℕ → List ℕ → Call
+read p o f s = question p (Class.read o f s)
+
+abbrev pub createFile : ℕ → ℕ → List ℕ → ℕ → Call
+createFile p d n o = change p (Class.createFile d n o)
+
+abbrev pub makeDirectory : ℕ → ℕ → List ℕ → ℕ → Call
+makeDirectory p d n o = change p (Class.makeDirectory d n o)
+
+abbrev pub removeFile : ℕ → ℕ → List ℕ → Call
+removeFile p d n = change p (Class.removeFile d n)
+
+abbrev pub removeDirectory : ℕ → ℕ → List ℕ → Call
+removeDirectory p d n = change p (Class.removeDirectory d n)
+
+abbrev pub rename : ℕ → ℕ → List ℕ → ℕ → List ℕ → Call
+rename p d n e k = change p (Class.rename d n e k)
+
+abbrev pub write : ℕ → ℕ → ℕ → List ℕ → Call
+write p o f s = change p (Class.write o f s)
+
+abbrev pub setLength : ℕ → ℕ → ℕ → Call
+setLength p o f = change p (Class.setLength o f)
+
+abbrev pub forder : ℕ → List ℕ → Call
+forder p s = change p (Class.forder s)
+
+abbrev pub push : ℕ → Call
+push q = link (Class.push q)
+
+abbrev pub fsync : ℕ → ℕ → ℕ → Call
+fsync p o k = link (Class.fsync p o k)
+
+abbrev pub cut : Call
+cut = link Class.cut
+
+abbrev pub take : ℕ → List ℕ → Call
+take p s = recovery p (Class.take s)
+
+abbrev pub renew : ℕ → Call
+renew p = recovery p Class.renew
 
 -- the returned number (0 where the call is accepted), then the other results in document 01's order, and the call's own
 -- buffer as it is left
@@ -71,43 +100,27 @@ answer n r b = record { returned = n; results = r; buffer = b }
 
 -- how many results a call has besides the returned number
 abbrev pub resultCount : Call → ℕ
-resultCount (lookup p s) = 1
-resultCount (list p o s) = 1
-resultCount (stat p o) = 3
-resultCount (read p o f s) = 1
-resultCount (createFile p d n o) = 1
-resultCount (makeDirectory p d n o) = 1
-resultCount (removeFile p d n) = 1
-resultCount (removeDirectory p d n) = 1
-resultCount (rename p d n e k) = 1
-resultCount (write p o f s) = 1
-resultCount (setLength p o f) = 1
-resultCount (forder p s) = 1
-resultCount (push q) = 0
-resultCount (fsync p o k) = 1
-resultCount cut = 0
-resultCount (take p s) = 1
-resultCount (renew p) = 0
+resultCount (question p (Class.lookup s)) = 1
+resultCount (question p (Class.list o s)) = 1
+resultCount (question p (Class.stat o)) = 3
+resultCount (question p (Class.read o f s)) = 1
+resultCount (change p c) = 1
+resultCount (link (Class.push q)) = 0
+resultCount (link (Class.fsync p o k)) = 1
+resultCount (link Class.cut) = 0
+resultCount (recovery p (Class.take s)) = 1
+resultCount (recovery p Class.renew) = 0
 
 -- the buffer that a call is lent to write, before the call; none where it has none
 abbrev pub ownBuffer : Call → List ℕ
-ownBuffer (lookup p s) = []
-ownBuffer (list p o s) = s
-ownBuffer (stat p o) = []
-ownBuffer (read p o f s) = s
-ownBuffer (createFile p d n o) = []
-ownBuffer (makeDirectory p d n o) = []
-ownBuffer (removeFile p d n) = []
-ownBuffer (removeDirectory p d n) = []
-ownBuffer (rename p d n e k) = []
-ownBuffer (write p o f s) = []
-ownBuffer (setLength p o f) = []
-ownBuffer (forder p s) = []
-ownBuffer (push q) = []
-ownBuffer (fsync p o k) = []
-ownBuffer cut = []
-ownBuffer (take p s) = s
-ownBuffer (renew p) = []
+ownBuffer (question p (Class.lookup s)) = []
+ownBuffer (question p (Class.list o s)) = s
+ownBuffer (question p (Class.stat o)) = []
+ownBuffer (question p (Class.read o f s)) = s
+ownBuffer (change p c) = []
+ownBuffer (link l) = []
+ownBuffer (recovery p (Class.take s)) = s
+ownBuffer (recovery p Class.renew) = []
 
 -- "The other results of a refusal are 0, and no buffer changes"
 abbrev pub refusal : ℕ → Call → Answer

@@ -13,15 +13,16 @@ use Rattle.volume_entry.specs.Entry.{Entry, isUsed, isFile, isDirectory, kindNu
 use Rattle.volume_tree.specs.Volume.{Volume, entryAt, search, hasChildren}
 use Rattle.volume_apply.specs.Apply.{isAbsent}
 use Rattle.log.specs.Order.{any}
-use Rattle.session.specs.Call.{Geometry, Call, rename, write, setLength, forder, Answer, answer}
+use Rattle.session.specs.Class.{Change, createFile, makeDirectory, removeFile, removeDirectory, rename, write, setLength, forder}
+use Rattle.session.specs.Call.{Geometry, Call, Answer, answer}
 use Rattle.session.specs.Issue.{displaced, issues}
 use Rattle.session.specs.Refusal.{Row, row}
-use Rattle.session.specs.Model.{Model, unless, programRows, isBad, isLong, outside, isFree, objectRows, roomFor}
+use Rattle.session.specs.Model.{Model, unless, programRows, isBad, isLong, outside, isFree, objectRows, roomFor, toldOf}
 
 -- room for what the call issues: "m slots used", "next number is 4,294,967,295"; across the end of a file "fewer than two slots are
 -- free", "fewer than two numbers are left" (document 02, K1)
 abbrev pub roomRows : Geometry → Call → Model → List Row
-roomRows g c x = roomFor g (x .log) (length (issues (x .view) c))
+roomRows g c x = roomFor g (x .log) (length (issues (toldOf x) c))
 
 -- a change is refused by its table, or "gives its sequence number"
 abbrev pub changed : Geometry → Call → ℕ → List Row → Model → Answer
@@ -37,9 +38,6 @@ makeRows v d n o =
     ∷ row Returned.wrongKind (not (isDirectory (entryAt v d)))
     ∷ row Returned.taken (not (isAbsent (search v d n)) || isUsed (entryAt v o))
     ∷ []
-
-unfoldable pub makeOf : Geometry → Call → ℕ → ℕ → List ℕ → ℕ → Model → Answer
-makeOf g c p d n o x = changed g c p (makeRows (x .view) d n o) x
 
 -- what is asked of an object where one was found
 abbrev pub ofFound : Option ℕ → (ℕ → Bool) → Bool
@@ -57,9 +55,6 @@ removeRows takes v d n =
     ∷ row Returned.wrongKind (not (isDirectory (entryAt v d)) || ofFound (search v d n) (λ o. not (takes (entryAt v o))))
     ∷ row Returned.notEmpty (ofFound (search v d n) (hasChildren v))
     ∷ []
-
-unfoldable pub removeOf : Geometry → Call → (Entry → Bool) → ℕ → ℕ → List ℕ → Model → Answer
-removeOf g c takes p d n x = changed g c p (removeRows takes (x .view) d n) x
 
 -- "A directory stays in its parent"; "file for directory or the reverse": the object and what it displaces are of one kind
 abbrev pub wrongRename : Volume → ℕ → ℕ → List ℕ → ℕ → Bool
@@ -81,9 +76,6 @@ renameRows v d n e k =
     ∷ row Returned.notEmpty (ofFound (search v d n) (λ o. ofFound (displaced o (search v e k)) (hasChildren v)))
     ∷ []
 
-unfoldable pub renameOf : Geometry → ℕ → ℕ → List ℕ → ℕ → List ℕ → Model → Answer
-renameOf g p d n e k x = changed g (rename p d n e k) p (renameRows (x .view) d n e k) x
-
 -- "write of 0 bytes, across blocks .., beyond length or b"; the end of the file is no bound within the block (document 02, K1)
 abbrev pub badRange : ℕ → ℕ → ℕ → ℕ → Bool
 badRange b len f n = (eqb n 0 || ltb blockBytes (f % blockBytes + n)) || (ltb len f || ltb (blockBytes * b) (f + n))
@@ -96,15 +88,9 @@ fileRows v o l = objectRows v o ++ (row Returned.wrongKind (not (isFile (entryAt
 abbrev pub writeRows : ℕ → Volume → ℕ → ℕ → List ℕ → List Row
 writeRows b v o f s = fileRows v o (row Returned.badRange (badRange b (length (contentsOf (entryAt v o))) f (length s)) ∷ [])
 
-unfoldable pub writeOf : Geometry → ℕ → ℕ → ℕ → List ℕ → Model → Answer
-writeOf g p o f s x = changed g (write p o f s) p (writeRows (g .blocks) (x .view) o f s) x
-
 -- "length over b × 1,024"
 abbrev pub lengthRows : ℕ → Volume → ℕ → ℕ → List Row
 lengthRows b v o f = fileRows v o (row Returned.badRange (ltb (blockBytes * b) f) ∷ [])
-
-unfoldable pub setLengthOf : Geometry → ℕ → ℕ → ℕ → Model → Answer
-setLengthOf g p o f x = changed g (setLength p o f) p (lengthRows (g .blocks) (x .view) o f) x
 
 -- "a length of 0, odd or over 16, or an object named twice, is a bad list"
 abbrev pub badList : Volume → List ℕ → Bool
@@ -116,5 +102,13 @@ badList v s =
 abbrev pub forderRows : Volume → List ℕ → List Row
 forderRows v s = row Returned.badNumber (badList v s) ∷ row Returned.noObject (any (isFree v) (objectsOf s)) ∷ []
 
-unfoldable pub forderOf : Geometry → ℕ → List ℕ → Model → Answer
-forderOf g p s x = changed g (forder p s) p (forderRows (x .view) s) x
+-- the table of a change
+abbrev pub changeRows : Geometry → Volume → Change → List Row
+changeRows g v (createFile d n o) = makeRows v d n o
+changeRows g v (makeDirectory d n o) = makeRows v d n o
+changeRows g v (removeFile d n) = removeRows isFile v d n
+changeRows g v (removeDirectory d n) = removeRows isDirectory v d n
+changeRows g v (rename d n e k) = renameRows v d n e k
+changeRows g v (write o f s) = writeRows (g .blocks) v o f s
+changeRows g v (setLength o f) = lengthRows (g .blocks) v o f
+changeRows g v (forder s) = forderRows v s

@@ -14,9 +14,11 @@ use Rattle.volume_apply.specs.Apply.{apply}
 use Rattle.volume_lookup.specs.Lookup.{lookupOperands}
 use Rattle.log.specs.Order.{needed}
 use Rattle.log.specs.Change
-use Rattle.session.specs.Call.{Call, lookup, list, stat, read, createFile, makeDirectory, removeFile, removeDirectory, rename, write, setLength, forder, push, fsync, cut, Answer}
-use Rattle.session.specs.Call
-use Rattle.session.specs.Issue.{issues}
+use Rattle.session.specs.Told.{Told}
+use Rattle.session.specs.Class.{Question, lookup, list, stat, read, push, fsync, cut}
+use Rattle.session.specs.Class
+use Rattle.session.specs.Call.{Call, question, change, link, recovery, Answer}
+use Rattle.session.specs.Issue.{operationsOf}
 use Rattle.session.specs.Model.{Model, withServer, withView, withLog}
 
 pub data Effect : Type 0 where
@@ -64,26 +66,22 @@ unfoldable pub issuing : ℕ → List Operation → List Effect
 issuing p [] = []
 issuing p (o ∷ os) = note p (operands o) ∷ issue p o ∷ issuing p os
 
--- what an accepted call does, told from its arguments, the view, and the waiting operations. "Lookup's operands are the directories
--- it searches and the object found; the others have their object." Fsync "needs d sends .. in issue order"
-abbrev pub acceptedEffects : Call → Volume → List Record → List Effect
-acceptedEffects (lookup p s) v w = note p (lookupOperands v s) ∷ []
-acceptedEffects (list p o s) v w = note p (o ∷ []) ∷ []
-acceptedEffects (stat p o) v w = note p (o ∷ []) ∷ []
-acceptedEffects (read p o f s) v w = note p (o ∷ []) ∷ []
-acceptedEffects (createFile p d n o) v w = issuing p (issues v (createFile p d n o))
-acceptedEffects (makeDirectory p d n o) v w = issuing p (issues v (makeDirectory p d n o))
-acceptedEffects (removeFile p d n) v w = issuing p (issues v (removeFile p d n))
-acceptedEffects (removeDirectory p d n) v w = issuing p (issues v (removeDirectory p d n))
-acceptedEffects (rename p d n e k) v w = issuing p (issues v (rename p d n e k))
-acceptedEffects (write p o f s) v w = issuing p (issues v (write p o f s))
-acceptedEffects (setLength p o f) v w = issuing p (issues v (setLength p o f))
-acceptedEffects (forder p s) v w = issuing p (issues v (forder p s))
-acceptedEffects (push q) v w = send q ∷ []
-acceptedEffects (fsync p o k) v w = note p (o ∷ []) ∷ sends (needed o w)
-acceptedEffects cut v w = discard ∷ []
-acceptedEffects (Call.take p s) v w = take p ∷ []
-acceptedEffects (Call.renew p) v w = renew p ∷ []
+-- "Lookup's operands are the directories it searches and the object found; the others have their object."
+abbrev pub askedOf : Volume → Question → List ℕ
+askedOf v (lookup s) = lookupOperands v s
+askedOf v (list o s) = o ∷ []
+askedOf v (stat o) = o ∷ []
+askedOf v (read o f s) = o ∷ []
+
+-- what an accepted call does. Fsync "needs d sends .. in issue order"
+abbrev pub acceptedEffects : Call → Told → List Effect
+acceptedEffects (question p q) t = note p (askedOf (t .view) q) ∷ []
+acceptedEffects (change p c) t = issuing p (operationsOf t c)
+acceptedEffects (link (push q)) t = send q ∷ []
+acceptedEffects (link (fsync p o k)) t = note p (o ∷ []) ∷ sends (needed o (t .waiting))
+acceptedEffects (link cut) t = discard ∷ []
+acceptedEffects (recovery p (Class.take s)) t = take p ∷ []
+acceptedEffects (recovery p Class.renew) t = renew p ∷ []
 
 -- "no buffer changes, with two exceptions. Refusal 17 sends the first k, then cuts": "Fsync counts as such a call even if the link
 -- fails". Refusal 2 "without a cut, keeps the sends before it", as many as it reports
@@ -92,25 +90,14 @@ brokenSync p o k a need =
     cond (eqb (a .returned) Returned.linkLost) (note p (o ∷ []) ∷ (sends (ListN.take k need) ++ (discard ∷ [])))
     (cond (eqb (a .returned) Returned.damaged) (sends (ListN.take (getD (a .results) 0 0) need)) [])
 
-abbrev pub refusedEffects : Call → Answer → List Record → List Effect
-refusedEffects (lookup p s) a w = []
-refusedEffects (list p o s) a w = []
-refusedEffects (stat p o) a w = []
-refusedEffects (read p o f s) a w = []
-refusedEffects (createFile p d n o) a w = []
-refusedEffects (makeDirectory p d n o) a w = []
-refusedEffects (removeFile p d n) a w = []
-refusedEffects (removeDirectory p d n) a w = []
-refusedEffects (rename p d n e k) a w = []
-refusedEffects (write p o f s) a w = []
-refusedEffects (setLength p o f) a w = []
-refusedEffects (forder p s) a w = []
-refusedEffects (push q) a w = []
-refusedEffects (fsync p o k) a w = brokenSync p o k a (needed o w)
-refusedEffects cut a w = []
-refusedEffects (Call.take p s) a w = []
-refusedEffects (Call.renew p) a w = []
+abbrev pub refusedEffects : Call → Answer → Told → List Effect
+refusedEffects (question p q) a t = []
+refusedEffects (change p c) a t = []
+refusedEffects (link (push q)) a t = []
+refusedEffects (link (fsync p o k)) a t = brokenSync p o k a (needed o (t .waiting))
+refusedEffects (link cut) a t = []
+refusedEffects (recovery p l) a t = []
 
--- what a call does, told from its arguments, its answer, the view, and the waiting operations
-unfoldable pub effectsOf : Call → Answer → Volume → List Record → List Effect
-effectsOf c a v w = cond (eqb (a .returned) Returned.accepted) (acceptedEffects c v w) (refusedEffects c a w)
+-- what a call does, told from its arguments, its answer, and what it is told
+unfoldable pub effectsOf : Call → Answer → Told → List Effect
+effectsOf c a t = cond (eqb (a .returned) Returned.accepted) (acceptedEffects c t) (refusedEffects c a t)

@@ -1,4 +1,4 @@
--- Document 01, "Calls": the operations that a change or forder issues, completed from the view.
+-- Document 01, "Calls": the operations that a change or forder issues, completed from what it is told.
 use Prim.Native.Nat.{ℕ, _-_}
 use mathlib.Core.List.{List, [], _∷_, _++_}
 use mathlib.Core.Bool.{Bool, true, false, cond}
@@ -10,7 +10,9 @@ use Rattle.record.specs.Operation.{Operation}
 use Rattle.record.specs.Fields.{objectsOf}
 use Rattle.volume_entry.specs.Entry.{contentsOf}
 use Rattle.volume_tree.specs.Volume.{Volume, entryAt, search}
-use Rattle.session.specs.Call.{Call, lookup, list, stat, read, createFile, makeDirectory, removeFile, removeDirectory, rename, write, setLength, forder, push, fsync, cut, take, renew}
+use Rattle.session.specs.Told.{Told}
+use Rattle.session.specs.Class.{Change, createFile, makeDirectory, removeFile, removeDirectory, rename, write, setLength, forder}
+use Rattle.session.specs.Call.{Call, question, change, link, recovery}
 
 -- the object that a rename displaces: what its second name leads to, unless that is the object itself
 abbrev pub displaced : ℕ → Option ℕ → Option ℕ
@@ -40,42 +42,27 @@ writes v o f s = writesAt (length (contentsOf (entryAt v o))) o f s
 abbrev pub removes : Volume → ℕ → List ℕ → List Operation
 removes v d n = onFound (search v d n) (λ o. Operation.remove o d n)
 
+-- the operations that a change is
+abbrev pub operationsOf : Told → Change → List Operation
+operationsOf t (createFile d n o) = Operation.createFile o d n ∷ []
+operationsOf t (makeDirectory d n o) = Operation.makeDirectory o d n ∷ []
+operationsOf t (removeFile d n) = removes (t .view) d n
+operationsOf t (removeDirectory d n) = removes (t .view) d n
+operationsOf t (rename d n e k) = onFound (search (t .view) d n) (λ o. Operation.rename o d e (displaced o (search (t .view) e k)) n k)
+operationsOf t (write o f s) = writes (t .view) o f s
+operationsOf t (setLength o f) = Operation.setLength o f ∷ []
+operationsOf t (forder s) = Operation.forder (objectsOf s) ∷ []
+
 -- the operations that a call issues where it is accepted
-abbrev pub issues : Volume → Call → List Operation
-issues v (lookup p s) = []
-issues v (list p o s) = []
-issues v (stat p o) = []
-issues v (read p o f s) = []
-issues v (createFile p d n o) = Operation.createFile o d n ∷ []
-issues v (makeDirectory p d n o) = Operation.makeDirectory o d n ∷ []
-issues v (removeFile p d n) = removes v d n
-issues v (removeDirectory p d n) = removes v d n
-issues v (rename p d n e k) = onFound (search v d n) (λ o. Operation.rename o d e (displaced o (search v e k)) n k)
-issues v (write p o f s) = writes v o f s
-issues v (setLength p o f) = Operation.setLength o f ∷ []
-issues v (forder p s) = Operation.forder (objectsOf s) ∷ []
-issues v (push q) = []
-issues v (fsync p o k) = []
-issues v cut = []
-issues v (take p s) = []
-issues v (renew p) = []
+abbrev pub issues : Told → Call → List Operation
+issues t (question p q) = []
+issues t (change p c) = operationsOf t c
+issues t (link l) = []
+issues t (recovery p l) = []
 
 -- the changes and forder: "Each accepted change, and forder, .. takes one sequence number and waits", and two where it is two operations
 abbrev pub alters : Call → Bool
-alters (lookup p s) = false
-alters (list p o s) = false
-alters (stat p o) = false
-alters (read p o f s) = false
-alters (createFile p d n o) = true
-alters (makeDirectory p d n o) = true
-alters (removeFile p d n) = true
-alters (removeDirectory p d n) = true
-alters (rename p d n e k) = true
-alters (write p o f s) = true
-alters (setLength p o f) = true
-alters (forder p s) = true
-alters (push q) = false
-alters (fsync p o k) = false
-alters cut = false
-alters (take p s) = false
-alters (renew p) = false
+alters (question p q) = false
+alters (change p c) = true
+alters (link l) = false
+alters (recovery p l) = false

@@ -1,6 +1,7 @@
 pub mod Write
 pub mod Issue
 pub mod Possible
+pub mod Agree
 pub mod Refusal
 pub mod Issuing
 pub mod Edit

@@ -1,3 +1,5 @@
+pub mod Class
+pub mod Told
 pub mod Call
 pub mod Refusal
 pub mod Model

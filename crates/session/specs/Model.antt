@@ -10,7 +10,9 @@ use Rattle.names.specs.declared.NameText.the-variants.{Fine, Bad, Long}
 use Rattle.volume_entry.specs.Entry.{isUsed}
 use Rattle.volume_tree.specs.Volume.{Volume, entryAt}
 use Rattle.log.specs.Programs.{holds}
-use Rattle.log.specs.Slot.{Log}
+use Rattle.log.specs.Slot.{Log, emptyLog}
+use Rattle.log.specs.Change.{waitingOf}
+use Rattle.session.specs.Told.{Told}
 use Rattle.session.specs.Call.{Geometry, Call, Answer, refusal}
 use Rattle.session.specs.Refusal.{Row, row, lowestNumber}
 
@@ -18,6 +20,18 @@ pub record Model : Type 0 where
   pub server : Volume
   pub view : Volume
   pub log : Log
+
+-- what a model tells a call
+abbrev pub toldOf : Model → Told
+toldOf x = record { view = x .view; waiting = waitingOf (x .log .slots) }
+
+-- "copies it to the view and begins an empty log": what an accepted mount leaves of a server volume
+abbrev pub mountedModel : Volume → Model
+mountedModel v = record { server = v; view = v; log = emptyLog }
+
+-- what ties the server, the view and the log to each other, besides the form that each has by itself: nothing does
+unfoldable pub agreeing : Model → Bool
+agreeing x = true
 
 -- with another server volume, with another view, and with another log
 abbrev pub withServer : Volume → Model → Model

@@ -6,42 +6,31 @@ use mathlib.Core.Bool.{true, _&&_, cond}
 use mathlib.Core.Option.{Option, none, some}
 use Rattle.buffer.specs.Decoded.{isSome}
 use Rattle.returned.specs.Returned
-use Rattle.volume_entry.specs.Entry.{isFile, isDirectory}
 use Rattle.volume_tree.specs.Volume.{Volume, formatted}
 use Rattle.volume_tree.specs.Stored.{encodeVolume, decodeVolume}
 use Rattle.log.specs.Slot.{Log, emptyLog}
-use Rattle.log.specs.Change.{waitingOf}
 use Rattle.log.specs.Stored.{encodeLog, decodeLog}
-use Rattle.session.specs.Call.{Geometry, Buffers, Call, lookup, list, stat, read, createFile, makeDirectory, removeFile, removeDirectory, rename, write, setLength, forder, push, fsync, cut, take, renew, Answer, answer, refusal, inRange, serverFits, lengthsFit}
-use Rattle.session.specs.Model.{Model}
+use Rattle.session.specs.Class.{push, fsync, cut, take, renew}
+use Rattle.session.specs.Call.{Geometry, Buffers, Call, question, change, link, recovery, Answer, answer, refusal, inRange, serverFits, lengthsFit}
+use Rattle.session.specs.Model.{Model, agreeing, toldOf}
 use Rattle.session.specs.Effect.{Effect, performAll, effectsOf}
-use Rattle.session.specs.Question.{lookupOf, listOf, statOf, readOf}
-use Rattle.session.specs.Edit.{makeOf, removeOf, renameOf, writeOf, setLengthOf, forderOf}
+use Rattle.session.specs.Question.{asked, questionAnswer}
+use Rattle.session.specs.Edit.{changed, changeRows}
 use Rattle.session.specs.Send.{pushOf, fsyncOf, takeOf, renewOf}
 
 -- what a call answers
 unfoldable pub answerOf : Geometry → Call → Model → Answer
-answerOf g (lookup p s) x = lookupOf p s x
-answerOf g (list p o s) x = listOf p o s x
-answerOf g (stat p o) x = statOf p o x
-answerOf g (read p o f s) x = readOf p o f s x
-answerOf g (createFile p d n o) x = makeOf g (createFile p d n o) p d n o x
-answerOf g (makeDirectory p d n o) x = makeOf g (makeDirectory p d n o) p d n o x
-answerOf g (removeFile p d n) x = removeOf g (removeFile p d n) isFile p d n x
-answerOf g (removeDirectory p d n) x = removeOf g (removeDirectory p d n) isDirectory p d n x
-answerOf g (rename p d n e k) x = renameOf g p d n e k x
-answerOf g (write p o f s) x = writeOf g p o f s x
-answerOf g (setLength p o f) x = setLengthOf g p o f x
-answerOf g (forder p s) x = forderOf g p s x
-answerOf g (push q) x = pushOf q x
-answerOf g (fsync p o k) x = fsyncOf p o k x
-answerOf g cut x = answer Returned.accepted [] []
-answerOf g (take p s) x = takeOf p s x
-answerOf g (renew p) x = renewOf p x
+answerOf g (question p q) x = asked (question p q) p x (questionAnswer (x .view) q)
+answerOf g (change p c) x = changed g (change p c) p (changeRows g (x .view) c) x
+answerOf g (link (push q)) x = pushOf q x
+answerOf g (link (fsync p o k)) x = fsyncOf p o k x
+answerOf g (link cut) x = answer Returned.accepted [] []
+answerOf g (recovery p (take s)) x = takeOf p s x
+answerOf g (recovery p renew) x = renewOf p x
 
 -- what a call does to the volumes and the log, and what these then are
 abbrev pub effectsIn : Geometry → Call → Model → List Effect
-effectsIn g c x = effectsOf c (answerOf g c x) (x .view) (waitingOf (x .log .slots))
+effectsIn g c x = effectsOf c (answerOf g c x) (toldOf x)
 
 unfoldable pub leavesOf : Geometry → Call → Model → Model
 leavesOf g c x = performAll (effectsIn g c x) x
@@ -66,12 +55,16 @@ encodeModel g x =
       log = encodeLog (g .capacity) (x .log);
     }
 
--- the model that the three buffers store; each of the three has its own form only
+-- a model whose parts agree
+abbrev pub ifAgreeing : Model → Option Model
+ifAgreeing x = cond (agreeing x) (some x) none
+
+-- the model that the three buffers store: each of the three has its own form, and together they agree
 abbrev pub joinModel : Option Volume → Option Volume → Option Log → Option Model
 joinModel none v l = none
 joinModel (some s) none l = none
 joinModel (some s) (some v) none = none
-joinModel (some s) (some v) (some l) = some (record { server = s; view = v; log = l })
+joinModel (some s) (some v) (some l) = ifAgreeing (record { server = s; view = v; log = l })
 
 unfoldable pub decodeModel : Geometry → Buffers → Option Model
 decodeModel g s =

@@ -4,7 +4,8 @@ ghost use mathlib.Core.Bool.{_&&_};
 ghost use Rattle.volume_tree.specs.Stored.{formed};
 ghost use Rattle.log.specs.Stored.{formedLog};
 ghost use Rattle.session.specs.Call.{geometry, buffers, inRange, lengthsFit};
-ghost use Rattle.session_admission.specs.Code.Admitted.{admission};
+ghost use Rattle.session.specs.Model.{agreeing};
+ghost use Rattle.session_admission.specs.Code.Admitted.{admission, modelIn};
 use log_form::log_formed;
 use returned::ACCEPTED;
 use returned::DAMAGED;
@@ -25,13 +26,23 @@ pub fn lengths_fit(n: usize, b: usize, m: usize, server: &[u8], view: &[u8], log
     false
 }
 
-// Whether each of the three buffers is of the right form.
+// Whether what three buffers of the right form store agrees: nothing ties them to each other.
+fn agree(n: usize, b: usize, m: usize, server: &[u8], view: &[u8], log: &[u8]) -> bool
+    ensures { λ r. ⌜ r ≡ agreeing (modelIn n b m (now (server .entry)) (now (view .entry)) (now (log .entry))) ⌝ }
+{
+    true
+}
+
+// Whether each of the three buffers is of the right form, and they agree.
 fn all_formed(n: usize, b: usize, m: usize, server: &[u8], view: &[u8], log: &[u8]) -> bool
-    ensures { λ r. ⌜ r ≡ formed n b (now (server .entry)) && (formed n b (now (view .entry)) && formedLog n b m (now (log .entry))) ⌝ }
+    ensures { λ r. ⌜ r ≡ formed n b (now (server .entry)) && (formed n b (now (view .entry)) && (formedLog n b m (now (log .entry))
+        && agreeing (modelIn n b m (now (server .entry)) (now (view .entry)) (now (log .entry))))) ⌝ }
 {
     if well_formed(server, n, b) {
         if well_formed(view, n, b) {
-            return log_formed(log, n, b, m);
+            if log_formed(log, n, b, m) {
+                return agree(n, b, m, server, view, log);
+            }
         }
     }
     false

@@ -8,6 +8,7 @@ use names::name_text;
 use returned::ACCEPTED;
 use returned::BAD_NAME;
 use returned::LONG_NAME;
+use returned::rank;
 
 // The refusal of a name's text; 0 where it is fine.
 pub fn text_refusal(name: &[u8]) -> usize
@@ -20,7 +21,7 @@ pub fn text_refusal(name: &[u8]) -> usize
     }
 }
 
-// The lower of two numbers, of which 0 is none: "The lowest number wins."
+// Of two numbers, of which 0 is none, the one of the lower rank: "The lowest number wins."
 pub fn lower_of(first: usize, second: usize) -> usize
     ensures { λ r. ⌜ r ≡ lower first second ⌝ }
 {
@@ -30,7 +31,7 @@ pub fn lower_of(first: usize, second: usize) -> usize
     if second == ACCEPTED {
         return first;
     }
-    if first < second {
+    if rank(first) <= rank(second) {
         return first;
     }
     second

@@ -17,13 +17,12 @@ use Rattle.log.specs.Order.{shares, directlyPrecedes}
 use Rattle.log.specs.Laws.Order.{Rising}
 use Rattle.log.specs.Change.{waitingOf}
 use Rattle.session.specs.Call.{Geometry, Buffers, Call, push, cut, Answer}
-use Rattle.session.specs.Model.{Model}
+use Rattle.session.specs.Model.{Model, mountedModel}
 use Rattle.session.specs.Issue.{alters}
 use Rattle.session.specs.Laws.Write.{writes-both}
 use Rattle.session.specs.Effect.{Effect, issuing, acceptedEffects}
 use Rattle.session.specs.Step.{answerOf, effectsIn, leavesOf, mount}
 use Rattle.session.specs.Laws.Answer.{change-answered}
-use Rattle.session.specs.Laws.Step.{mountedModel}
 use Rattle.register.specs.Register.{Register, begun, Acknowledged, waiting, isWaiting, isSent, isLost, chosen, happen, happenAll}
 use Rattle.register.specs.History.{Is, Precedes}
 use Rattle.register.specs.Run.{State, Moment, Mounted, next, run, play}
@@ -169,7 +168,7 @@ across g s v mounted cs m h w =
     let b = secondOf p (firstOperation w) (secondOperation w) r in
     let accepted : answerOf g (m .call) x .returned ≡ 0 = ap (λ (y : Answer). y .returned) (sym (k .answer)) ∙ w .accepted in
     let effects : effectsIn g (m .call) x ≡ issuing p (firstOperation w ∷ secondOperation w ∷ []) =
-    accepted-effects g (m .call) x accepted ∙ (λ i. acceptedEffects (w .call i) (sym (view-replayed g r x (k .led .good .kept)) i) (waitingOf (x .log .slots)))
+    accepted-effects g (m .call) x accepted ∙ (λ i. acceptedEffects (w .call i) (record { view = sym (view-replayed g r x (k .led .good .kept)) i; waiting = waitingOf (x .log .slots) }))
     ∙ ap (issuing p) (writes-both (lengthIn r (w .object)) (w .object) (w .offset) (w .bytes) (omega arith) (w .begins) (omega arith)) in
     let added : after .operations ≡ r .operations ++ (a ∷ b ∷ []) =
     ap (λ (y : Register). y .operations) (led-fed g v (m .before) x (k .led) (m .call) ∙ ap (λ (es : List Effect). happenAll es r) effects) ∙ both-issued p (firstOperation w) (secondOperation w) r in

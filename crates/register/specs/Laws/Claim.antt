@@ -22,7 +22,7 @@ use Rattle.log.specs.Laws.Order.{Rising, direct-decides}
 use Rattle.log.specs.Change.{waitingOf, lossesOf}
 use Rattle.log.specs.Laws.Change.{at-waiting, waiting-at, waiting-in-order}
 use Rattle.session.specs.Call.{Geometry, Buffers, Call, fsync, push, take as takeLoss, Answer}
-use Rattle.session.specs.Model.{Model}
+use Rattle.session.specs.Model.{Model, mountedModel, toldOf}
 use Rattle.log.specs.Sends.{applying}
 use Rattle.session.specs.Send.{fsyncOf}
 use Rattle.session.specs.Effect.{Effect, note, issue, send, sends, issuing, perform, acceptedEffects, refusedEffects, effectsOf}
@@ -31,7 +31,7 @@ use Rattle.session.specs.Laws.Possible.{Sendable}
 use Rattle.session.specs.Laws.Ready.{Ready, needed-ready, ready-take, first-sent}
 use Rattle.session.specs.Laws.Call.{push-accepted}
 use Rattle.session.specs.Laws.Answer.{Damaged, byPush, bySync, damaged-why, push-passes, change-answered, sync-answered, link-answered}
-use Rattle.session.specs.Laws.Step.{step-holds, mountedModel}
+use Rattle.session.specs.Laws.Step.{step-holds}
 use Rattle.register.specs.Replay.{replay}
 use Rattle.register.specs.Register.{Register, begun, Acknowledged, isWaiting, isSent, chosen, sentIn, waitingIn, neededFor, acknowledged, sending, happen, happenAll}
 use Rattle.register.specs.History.{Is, Marked}
@@ -96,9 +96,9 @@ first-issued p o os r =
     let a = acknowledged p o (happen (note p (operands o)) r) in
     (a, rest .0, rest .1 ∙ append-assoc (r .operations) (a ∷ []) (rest .0), refl)
 
-pub accepted-effects : (g : Geometry) (c : Call) (x : Model) → answerOf g c x .returned ≡ 0 → effectsIn g c x ≡ acceptedEffects c (x .view) (waitingOf (x .log .slots))
+pub accepted-effects : (g : Geometry) (c : Call) (x : Model) → answerOf g c x .returned ≡ 0 → effectsIn g c x ≡ acceptedEffects c (toldOf x)
 unfolding effectsOf
-accepted-effects g c x e = ap (λ (n : ℕ). cond (eqb n 0) (acceptedEffects c (x .view) (waitingOf (x .log .slots))) (refusedEffects c (answerOf g c x) (waitingOf (x .log .slots)))) e
+accepted-effects g c x e = ap (λ (n : ℕ). cond (eqb n 0) (acceptedEffects c (toldOf x)) (refusedEffects c (answerOf g c x) (toldOf x))) e
 
 -- what is sent stays sent over further sends
 sends-stay : (l : List Record) (r : Register) (q : ℕ) → SentAt r q → SentAt (happenAll (sends l) r) q
@@ -159,7 +159,7 @@ module _ (g : Geometry) (v : Volume) where
               others = f .1;
               added =
                   ap (λ (z : Register). z .operations)
-                  (led-fed g v s x (k .led) (m .call) ∙ ap (λ (es : List Effect). happenAll es (s .register)) (accepted-effects g (m .call) x (told 0 e) ∙ c .effects (x .view) (waitingOf (x .log .slots)) refl))
+                  (led-fed g v s x (k .led) (m .call) ∙ ap (λ (es : List Effect). happenAll es (s .register)) (accepted-effects g (m .call) x (told 0 e) ∙ c .effects))
                   ∙ f .2;
               told = ap (λ (a : Answer). a .results) (k .answer) ∙ c .results ∙ ap (λ (n : ℕ). n ∷ []) (k .led .good .kept .next ∙ sym (f .3));
             };

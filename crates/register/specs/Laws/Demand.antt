@@ -9,6 +9,7 @@ use mathlib.Core.Option.{Option, none, some}
 use lib.ListN.{length, take, drop, getD, take-append-drop}
 use lib.Dec.{eqb}
 use borrow.Author.Tests.{ne-eqb}
+use Rattle.session.specs.Told.{Told}
 use Rattle.session.specs.Laws.Refusal.{same-number}
 use Rattle.returned.specs.Returned
 use Rattle.record.specs.Operation.{Record}
@@ -19,16 +20,17 @@ use Rattle.log.specs.Order.{any, before, needed, preceded, PrecedesIn}
 use Rattle.log.specs.Laws.Order.{Rising, direct-decides, preceded-exact}
 use Rattle.log.specs.Change.{waitingOf}
 use Rattle.log.specs.Laws.Change.{waiting-at}
-use Rattle.session.specs.Call.{Geometry, Buffers, Call, lookup, list, stat, read, createFile, makeDirectory, removeFile, removeDirectory, rename, write, setLength, forder, push, fsync, cut, Answer, answer, inRange, lengthsFit}
+use Rattle.session.specs.Class
+use Rattle.session.specs.Call.{Geometry, Buffers, Call, question, change, link, recovery, list, read, push, fsync, cut, Answer, answer, inRange, lengthsFit}
 use Rattle.session.specs.Call
-use Rattle.session.specs.Model.{Model}
+use Rattle.session.specs.Model.{Model, mountedModel, toldOf}
 use Rattle.log.specs.Sends.{applying}
 use Rattle.session.specs.Send.{syncAnswer, fsyncOf}
 use Rattle.session.specs.Effect.{Effect, note, discard, sends, performAll, acceptedEffects, refusedEffects, effectsOf}
 use Rattle.session.specs.Step.{Stores, answerOf, effectsIn, leavesOf, turnedDown, encodeModel, decodeModel, onModel, step, mount}
 use Rattle.session.specs.Laws.Call.{push-accepted, Synced, whole, partly, broken, synced-is, sync-damaged}
 use Rattle.session.specs.Laws.Answer.{refused-plain, push-passes}
-use Rattle.session.specs.Laws.Step.{model-read, step-holds, mountedModel}
+use Rattle.session.specs.Laws.Step.{model-read, step-holds}
 use Rattle.register.specs.Replay.{replay}
 use Rattle.register.specs.Register.{Register, begun, happenAll}
 use Rattle.register.specs.Run.{State, Moment, next, run, Mounted, play}
@@ -162,30 +164,19 @@ push-any g s x st q m fit =
 no-effects : (g : Geometry) (c : Call) (x : Model) → (answerOf g c x .returned ≡ 0 → ⊥) → (answerOf g c x .returned ≡ Returned.linkLost → ⊥)
     → (answerOf g c x .returned ≡ Returned.damaged → (p o k : ℕ) → c ≡ fsync p o k → ⊥) → effectsIn g c x ≡ []
 unfolding effectsOf
-no-effects g c x n l d = ap (λ (b : Bool). cond b (acceptedEffects c (x .view) w) (refusedEffects c (answerOf g c x) w)) (ne-eqb _ 0 n) ∙ none c refl (answerOf g c x) l d
+no-effects g c x n l d = ap (λ (b : Bool). cond b (acceptedEffects c w) (refusedEffects c (answerOf g c x) w)) (ne-eqb _ 0 n) ∙ none c refl (answerOf g c x) l d
   where
-    w : List Record
-    w = waitingOf (x .log .slots)
+    w : Told
+    w = toldOf x
 
     none : (e : Call) → c ≡ e → (a : Answer) → (a .returned ≡ Returned.linkLost → ⊥) → (a .returned ≡ Returned.damaged → (p o k : ℕ) → e ≡ fsync p o k → ⊥) → refusedEffects e a w ≡ []
-    none (lookup p t) is a l d = refl
-    none (list p o t) is a l d = refl
-    none (stat p o) is a l d = refl
-    none (read p o f t) is a l d = refl
-    none (createFile p b t o) is a l d = refl
-    none (makeDirectory p b t o) is a l d = refl
-    none (removeFile p b t) is a l d = refl
-    none (removeDirectory p b t) is a l d = refl
-    none (rename p b t e k) is a l d = refl
-    none (write p o f t) is a l d = refl
-    none (setLength p o f) is a l d = refl
-    none (forder p t) is a l d = refl
-    none (push q) is a l d = refl
-    none (fsync p o k) is a l d =
-        (λ i. cond (ne-eqb (a .returned) 17 l i) (note p (o ∷ []) ∷ (sends (take k (needed o w)) ++ (discard ∷ []))) (cond (ne-eqb (a .returned) 2 (λ z. d z p o k refl) i) (sends (take (getD (a .results) 0 0) (needed o w))) []))
-    none cut is a l d = refl
-    none (Call.take p t) is a l d = refl
-    none (Call.renew p) is a l d = refl
+    none (question p q) is a l d = refl
+    none (change p c) is a l d = refl
+    none (link (Class.push q)) is a l d = refl
+    none (link (Class.fsync p o k)) is a l d =
+        (λ i. cond (ne-eqb (a .returned) 17 l i) (note p (o ∷ []) ∷ (sends (take k (needed o (w .waiting))) ++ (discard ∷ []))) (cond (ne-eqb (a .returned) 2 (λ z. d z p o k refl) i) (sends (take (getD (a .results) 0 0) (needed o (w .waiting)))) []))
+    none (link Class.cut) is a l d = refl
+    none (recovery p t) is a l d = refl
 
 pub refused-unchanged : (g : Geometry) (c : Call) (s : Buffers) → (step g c s .gives .returned ≡ 0 → ⊥) → (step g c s .gives .returned ≡ Returned.linkLost → ⊥)
     → (step g c s .gives .returned ≡ Returned.damaged → (p o k : ℕ) → c ≡ fsync p o k → ⊥) → Unchanged c s (step g c s)

@@ -14,10 +14,10 @@ use Rattle.log.specs.Change.{waitingOf}
 use Rattle.log.specs.Laws.Change.{at-waiting, noted-waiting, taken-waiting}
 use Rattle.log.specs.Laws.Partition.{applyEach, EachApplies, Closed}
 use Rattle.session.specs.Call.{Geometry, Call, Answer}
-use Rattle.session.specs.Model.{Model}
+use Rattle.session.specs.Model.{Model, toldOf}
 use Rattle.session.specs.Effect.{Effect, note, issue, send, discard, take, renew, sentFound, perform, performAll, effectsOf}
 use Rattle.session.specs.Laws.Possible.{Sound, Sendable, Possible, AllPossible}
-use Rattle.register.specs.Register.{Register, Touch, Renewal, Acknowledged, isWaiting, isSent, begun, waitingIn, viewOf, sending, acknowledged, withOperations, later, happen, happenAll}
+use Rattle.register.specs.Register.{Register, Touch, Renewal, Acknowledged, isWaiting, isSent, begun, toldBy, sending, acknowledged, withOperations, later, happen, happenAll}
 use Rattle.register.specs.Claim.{recordedOf}
 use Rattle.register.specs.Laws.Fate.{isLive}
 use Rattle.register.specs.Laws.Invariant.{Good}
@@ -61,8 +61,8 @@ module _ (g : Geometry) (r : Register) (x : Model) (k : Good g r x) where
       subst (λ (z : Record). applies (x .server) (z .operation) ≡ true) (w .1) (free-applies g r x (k .kept) (w .0) (w .2))
 
   -- the effects of a call told from the register are those told from the model
-  pub feed-effects : (c : Call) (a : Answer) → effectsOf c a (viewOf r) (waitingIn r) ≡ effectsOf c a (x .view) (waitingOf (x .log .slots))
-  feed-effects c a = λ i. effectsOf c a (view-replayed g r x (k .kept) i) (waiting-same g r x (k .kept) i)
+  pub feed-effects : (c : Call) (a : Answer) → effectsOf c a (toldBy r) ≡ effectsOf c a (toldOf x)
+  feed-effects c a = λ i. effectsOf c a (record { view = view-replayed g r x (k .kept) i; waiting = waiting-same g r x (k .kept) i })
 
   -- an effect that sends, issues and discards nothing
   same-good : (t : List Touch) (n : List Renewal) (y : Model) → Sound g y → y .server ≡ x .server → y .view ≡ x .view → y .log .next ≡ x .log .next

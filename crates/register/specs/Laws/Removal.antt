@@ -4,21 +4,20 @@ use mathlib.Core.Path.{_≡_, refl, sym, ap, _∙_, subst}
 use mathlib.Core.List.{List, [], _∷_, _++_, List·Memᴰ}
 use mathlib.Core.Bool.{Bool, true}
 use mathlib.Core.Option.{Option}
-use Rattle.record.specs.Operation.{Operation, Record, operands}
+use Rattle.record.specs.Operation.{Operation, operands}
 use Rattle.record.specs.Fields.{member}
 use Rattle.volume_entry.specs.Entry.{Entry, isFile, isDirectory}
 use Rattle.volume_tree.specs.Volume.{Volume, search}
 use Rattle.volume_apply.specs.Laws.Local.{member-first}
-use Rattle.log.specs.Change.{waitingOf}
+use Rattle.session.specs.Told.{Told}
 use Rattle.session.specs.Call.{Geometry, Buffers, Call, removeFile, removeDirectory, Answer}
-use Rattle.session.specs.Model.{Model}
+use Rattle.session.specs.Model.{Model, mountedModel, toldOf}
 use Rattle.session.specs.Issue.{onFound, removes}
 use Rattle.session.specs.Effect.{Effect, issuing, acceptedEffects}
 use Rattle.session.specs.Step.{answerOf, effectsIn, mount}
 use Rattle.session.specs.Removal.{Removable}
 use Rattle.session.specs.Laws.Removal.{file-removed, directory-removed}
 use Rattle.session.specs.Laws.Possible.{Sound}
-use Rattle.session.specs.Laws.Step.{mountedModel}
 use Rattle.register.specs.Replay.{replay}
 use Rattle.register.specs.Register.{Register, begun, viewOf, happenAll}
 use Rattle.register.specs.Run.{State, Moment, Mounted, next, play}
@@ -38,8 +37,8 @@ removed-operand o d n = member-first o (d ∷ [])
 pub removals : (g : Geometry) (s : Buffers) (v : Volume) → Mounted g s v → (cs : List Call) → Removals g v (play g s v cs)
 removals g s v mounted cs =
     record {
-      files = λ m h w. took isFile removeFile (λ x k p d n e. file-removed g x k p d n e) (λ p d n y z. refl) m h w;
-      directories = λ m h w. took isDirectory removeDirectory (λ x k p d n e. directory-removed g x k p d n e) (λ p d n y z. refl) m h w;
+      files = λ m h w. took isFile removeFile (λ x k p d n e. file-removed g x k p d n e) (λ p d n t. refl) m h w;
+      directories = λ m h w. took isDirectory removeDirectory (λ x k p d n e. directory-removed g x k p d n e) (λ p d n t. refl) m h w;
     }
   where
     begin : State
@@ -47,7 +46,7 @@ removals g s v mounted cs =
 
     took : (kind : Entry → Bool) (call : ℕ → ℕ → List ℕ → Call)
         → ((x : Model) → Sound g x → (p d : ℕ) (n : List ℕ) → answerOf g (call p d n) x .returned ≡ 0 → Removable x kind d n)
-        → ((p d : ℕ) (n : List ℕ) (y : Volume) (z : List Record) → acceptedEffects (call p d n) y z ≡ issuing p (removes y d n))
+        → ((p d : ℕ) (n : List ℕ) (t : Told) → acceptedEffects (call p d n) t ≡ issuing p (removes (t .view) d n))
         → (m : Moment) → List·Memᴰ m (play g s v cs .moments) → (w : Removes call m) → Removed g v (play g s v cs) kind m (w .program) (w .parent) (w .name)
     took kind call takes does m h w =
         let start = mounted-led g s v mounted in
@@ -60,8 +59,8 @@ removals g s v mounted cs =
         let t = takes x (met .led .good .kept .sound) (w .program) (w .parent) (w .name) (ap (λ (c : Call). answerOf g c x .returned) (sym (w .made)) ∙ accepted) in
         let o : Operation = Operation.remove (t .object) (w .parent) (w .name) in
         let effects : effectsIn g (m .call) x ≡ issuing (w .program) (o ∷ []) =
-        accepted-effects g (m .call) x accepted ∙ ap (λ (c : Call). acceptedEffects c (x .view) (waitingOf (x .log .slots))) (w .made)
-        ∙ does (w .program) (w .parent) (w .name) (x .view) (waitingOf (x .log .slots))
+        accepted-effects g (m .call) x accepted ∙ ap (λ (c : Call). acceptedEffects c (toldOf x)) (w .made)
+        ∙ does (w .program) (w .parent) (w .name) (toldOf x)
         ∙ ap (λ (y : Option ℕ). issuing (w .program) (onFound y (λ i. Operation.remove i (w .parent) (w .name)))) (t .found) in
         let seen : viewOf r ≡ x .view = view-replayed g r x (met .led .good .kept) in
         let a = issuedIn (w .program) o r in

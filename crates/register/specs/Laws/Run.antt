@@ -8,13 +8,13 @@ use Rattle.record.specs.Operation.{Record}
 use Rattle.record.specs.Fields.{encode}
 use Rattle.volume_tree.specs.Volume.{Volume}
 use Rattle.session.specs.Call.{Geometry, Buffers, Call, Answer}
-use Rattle.session.specs.Model.{Model}
+use Rattle.session.specs.Model.{Model, mountedModel}
 use Rattle.session.specs.Effect.{Effect, note, issue, send, discard, take, renew, perform}
 use Rattle.session.specs.Step.{answerOf, effectsIn, leavesOf, step, mount, decodeModel}
 use Rattle.session.specs.Laws.Possible.{Possible}
 use Rattle.session.specs.Laws.Effect.{perform-sound}
 use Rattle.session.specs.Laws.Call.{call-possible}
-use Rattle.session.specs.Laws.Step.{Holds, step-holds, mountedModel, mount-holds}
+use Rattle.session.specs.Laws.Step.{Holds, step-holds, mount-holds}
 use Rattle.register.specs.Register.{Register, begun, happen, happenAll, feed}
 use Rattle.register.specs.Run.{State, Moment, Run, next, run, Mounted}
 use Rattle.register.specs.Takes.{fetchedBy}

@@ -22,15 +22,14 @@ use Rattle.volume_apply.specs.Apply.{applies, apply}
 use Rattle.volume_apply.specs.Spelling.{Respelled}
 use Rattle.volume_apply.specs.Laws.Spelling.{respelled}
 use Rattle.log.specs.Slot.{Log}
-use Rattle.log.specs.Change.{waitingOf}
+use Rattle.session.specs.Told.{Told}
 use Rattle.session.specs.Call.{Geometry, Buffers, Call, rename, Answer, answer, inRange, lengthsFit}
-use Rattle.session.specs.Model.{Model}
+use Rattle.session.specs.Model.{Model, mountedModel, toldOf}
 use Rattle.session.specs.Issue.{displaced, onFound, issues}
 use Rattle.session.specs.Effect.{Effect, issuing, acceptedEffects, perform, performAll}
 use Rattle.session.specs.Step.{answerOf, effectsIn, leavesOf, turnedDown, joinModel, decodeModel, step, mount}
 use Rattle.session.specs.Laws.Possible.{Sound}
 use Rattle.session.specs.Laws.Edit.{rename-accepted}
-use Rattle.session.specs.Laws.Step.{mountedModel}
 use Rattle.register.specs.Replay.{replay}
 use Rattle.register.specs.Register.{Register, begun, Acknowledged, waiting, viewOf, happen, happenAll}
 use Rattle.register.specs.Run.{State, Moment, Mounted, next, play}
@@ -76,13 +75,13 @@ alike-refused g s f t c =
     unjoined (some v) l = refl
 
 -- what an accepted rename in one parent to another spelling issues
-pub record Issued (v : Volume) (p d : ℕ) (n k : List ℕ) : Type 0 where
+pub record Issued (t : Told) (p d : ℕ) (n k : List ℕ) : Type 0 where
   pub object : ℕ
-  pub found : search v d n ≡ some object
-  pub operation : issues v (rename p d n d k) ≡ Operation.rename object d d none n k ∷ []
-  pub fit : applies v (Operation.rename object d d none n k) ≡ true
+  pub found : search (t .view) d n ≡ some object
+  pub operation : issues t (rename p d n d k) ≡ Operation.rename object d d none n k ∷ []
+  pub fit : applies (t .view) (Operation.rename object d d none n k) ≡ true
 
-spelling-issued : (g : Geometry) (x : Model) → Sound g x → (p d : ℕ) (n k : List ℕ) → answerOf g (rename p d n d k) x .returned ≡ 0 → sameName n k ≡ true → Issued (x .view) p d n k
+spelling-issued : (g : Geometry) (x : Model) → Sound g x → (p d : ℕ) (n k : List ℕ) → answerOf g (rename p d n d k) x .returned ≡ 0 → sameName n k ≡ true → Issued (toldOf x) p d n k
 unfolding answerOf
 spelling-issued g x s p d n k a e =
     let v = x .view in
@@ -151,7 +150,7 @@ spellings g s v mounted cs =
         let i = spelling-issued g x (met .led .good .kept .sound) (w .program) (w .parent) (w .name) (w .secondName) (ap (λ (c : Call). answerOf g c x .returned) (sym (w .call)) ∙ accepted) (w .same) in
         let o : Operation = Operation.rename (i .object) (w .parent) (w .parent) none (w .name) (w .secondName) in
         let effects : effectsIn g (m .call) x ≡ issuing (w .program) (o ∷ []) =
-        accepted-effects g (m .call) x accepted ∙ ap (λ (c : Call). acceptedEffects c (x .view) (waitingOf (x .log .slots))) (w .call) ∙ ap (issuing (w .program)) (i .operation) in
+        accepted-effects g (m .call) x accepted ∙ ap (λ (c : Call). acceptedEffects c (toldOf x)) (w .call) ∙ ap (issuing (w .program)) (i .operation) in
         let seen : viewOf r ≡ x .view = view-replayed g r x (met .led .good .kept) in
         let left : viewOf (next g (m .call) (m .before) .register) ≡ apply (x .view) o =
         view-replayed g _ _ (after .good .kept) ∙ ap (λ (es : List Effect). performAll es x .view) effects ∙ one-performed (w .program) o x in

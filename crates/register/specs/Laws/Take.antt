@@ -16,10 +16,11 @@ use Rattle.buffer.specs.Patch.{patch}
 use Rattle.log.specs.Slot.{Slot}
 use Rattle.log.specs.Order.{any, needed}
 use Rattle.log.specs.Change.{waitingOf, isLossOf, earliest, lossesOf}
-use Rattle.session.specs.Call.{Geometry, Call, lookup, list, stat, read, createFile, makeDirectory, removeFile, removeDirectory, rename, write, setLength, forder, push, fsync, cut, take as takeLoss, renew, Answer, answer, refusal}
+use Rattle.session.specs.Class
+use Rattle.session.specs.Call.{Geometry, Call, question, change, link, recovery, push, fsync, cut, take as takeLoss, renew, Answer, answer, refusal}
 use Rattle.session.specs.Refusal.{Row, row, lowestNumber}
-use Rattle.session.specs.Model.{Model, unless}
-use Rattle.session.specs.Issue.{issues}
+use Rattle.session.specs.Model.{Model, unless, toldOf}
+use Rattle.session.specs.Issue.{operationsOf}
 use Rattle.session.specs.Effect
 use Rattle.session.specs.Effect.{Effect, note, issue, send, discard, perform, sends, issuing, acceptedEffects, refusedEffects, brokenSync, effectsOf}
 use Rattle.session.specs.Send.{ofRecord, lossBytes, takeOf}
@@ -116,37 +117,27 @@ take-wrote x q own p = go (earliest (isLossOf q) (x .log .slots)) refl
 
 module _ (g : Geometry) (x : Model) (p : ℕ) where
   -- a call none of whose effects is a take
-  quiet : (c : Call) → any isTake (acceptedEffects c (x .view) (waitingOf (x .log .slots))) ≡ false
-      → any isTake (refusedEffects c (answerOf g c x) (waitingOf (x .log .slots))) ≡ false → [] ≡ map encode (fetchedIn p x (effectsIn g c x))
+  quiet : (c : Call) → any isTake (acceptedEffects c (toldOf x)) ≡ false
+      → any isTake (refusedEffects c (answerOf g c x) (toldOf x)) ≡ false → [] ≡ map encode (fetchedIn p x (effectsIn g c x))
   unfolding effectsOf
   quiet c h k = go (eqb (answerOf g c x .returned) Returned.accepted)
     where
-      go : (b : Bool) → [] ≡ map encode (fetchedIn p x (cond b (acceptedEffects c (x .view) (waitingOf (x .log .slots))) (refusedEffects c (answerOf g c x) (waitingOf (x .log .slots)))))
-      go true = ap (map encode) (sym (none-taken p (acceptedEffects c (x .view) (waitingOf (x .log .slots))) x h))
-      go false = ap (map encode) (sym (none-taken p (refusedEffects c (answerOf g c x) (waitingOf (x .log .slots))) x k))
+      go : (b : Bool) → [] ≡ map encode (fetchedIn p x (cond b (acceptedEffects c (toldOf x)) (refusedEffects c (answerOf g c x) (toldOf x))))
+      go true = ap (map encode) (sym (none-taken p (acceptedEffects c (toldOf x)) x h))
+      go false = ap (map encode) (sym (none-taken p (refusedEffects c (answerOf g c x) (toldOf x)) x k))
 
 -- the bytes that a call's answer reports of a program's losses are the records that its effects fetch
 pub wrote-taken : (g : Geometry) (c : Call) (x : Model) (p : ℕ) → wrote p c (answerOf g c x) ≡ map encode (fetchedIn p x (effectsIn g c x))
 unfolding any answerOf effectsOf
-wrote-taken g (lookup q s) x p = quiet g x p (lookup q s) refl refl
-wrote-taken g (list q o s) x p = quiet g x p (list q o s) refl refl
-wrote-taken g (stat q o) x p = quiet g x p (stat q o) refl refl
-wrote-taken g (read q o f s) x p = quiet g x p (read q o f s) refl refl
-wrote-taken g (createFile q d n o) x p = quiet g x p (createFile q d n o) (issuing-none q (issues (x .view) (createFile q d n o))) refl
-wrote-taken g (makeDirectory q d n o) x p = quiet g x p (makeDirectory q d n o) (issuing-none q (issues (x .view) (makeDirectory q d n o))) refl
-wrote-taken g (removeFile q d n) x p = quiet g x p (removeFile q d n) (issuing-none q (issues (x .view) (removeFile q d n))) refl
-wrote-taken g (removeDirectory q d n) x p = quiet g x p (removeDirectory q d n) (issuing-none q (issues (x .view) (removeDirectory q d n))) refl
-wrote-taken g (rename q d n e k) x p = quiet g x p (rename q d n e k) (issuing-none q (issues (x .view) (rename q d n e k))) refl
-wrote-taken g (write q o f s) x p = quiet g x p (write q o f s) (issuing-none q (issues (x .view) (write q o f s))) refl
-wrote-taken g (setLength q o f) x p = quiet g x p (setLength q o f) (issuing-none q (issues (x .view) (setLength q o f))) refl
-wrote-taken g (forder q s) x p = quiet g x p (forder q s) (issuing-none q (issues (x .view) (forder q s))) refl
-wrote-taken g (push q) x p = quiet g x p (push q) refl refl
-wrote-taken g (fsync q o k) x p =
+wrote-taken g (question q s) x p = quiet g x p (question q s) refl refl
+wrote-taken g (change q c) x p = quiet g x p (change q c) (issuing-none q (operationsOf (toldOf x) c)) refl
+wrote-taken g (link (Class.push q)) x p = quiet g x p (push q) refl refl
+wrote-taken g (link (Class.fsync q o k)) x p =
     let need = needed o (waitingOf (x .log .slots)) in
     quiet g x p (fsync q o k) (sends-none need) (broken-none q o k (answerOf g (fsync q o k) x) need)
-wrote-taken g cut x p = quiet g x p cut refl refl
-wrote-taken g (takeLoss q own) x p = take-wrote x q own p
-wrote-taken g (renew q) x p = quiet g x p (renew q) refl refl
+wrote-taken g (link Class.cut) x p = quiet g x p cut refl refl
+wrote-taken g (recovery q (Class.take own)) x p = take-wrote x q own p
+wrote-taken g (recovery q Class.renew) x p = quiet g x p (renew q) refl refl
 
 -- a take is refused with 16 only where its program has no loss
 pub refused-none : (g : Geometry) (p : ℕ) (own : List ℕ) (x : Model) → answerOf g (takeLoss p own) x .returned ≡ Returned.none → earliest (isLossOf p) (x .log .slots) ≡ none

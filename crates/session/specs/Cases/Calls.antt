@@ -30,8 +30,6 @@ use Rattle.session.specs.Model.{Model, withLog}
 use Rattle.volume_questions.specs.Listing.{listing}
 use Rattle.volume_questions.specs.Answer.{statAnswer, objectAnswer, readAnswer, readLeaves, listAnswer, listLeaves}
 use Rattle.volume_lookup.specs.Lookup.{componentAnswer, componentsAnswer, componentsObjects, lookupAnswer, lookupOperands}
-use Rattle.session.specs.Question.{lookupOf, statOf, readOf, listOf}
-use Rattle.session.specs.Edit.{makeOf, removeOf, renameOf, writeOf, setLengthOf}
 use Rattle.log.specs.Sends.{applying}
 use Rattle.session.specs.Send.{pushOf, fsyncOf, takeOf, renewOf}
 use Rattle.session.specs.Effect.{perform, performAll, issuing, effectsOf}
@@ -69,27 +67,27 @@ pub data Question : Type 0 where
   recordOf : List ℕ → Question
 
 -- what document 01 tells
-pub data Told : Type 0 where
+pub data Said : Type 0 where
   -- of each call the returned number, then its other results
-  numbers : List (List ℕ) → Told
+  numbers : List (List ℕ) → Said
   -- of each waiting operation its sequence number, then those of the operations that precede it
-  precede : List (List ℕ) → Told
+  precede : List (List ℕ) → Said
   -- the bytes of a buffer
-  left : List ℕ → Told
+  left : List ℕ → Said
   -- a record
-  aRecord : Record → Told
+  aRecord : Record → Said
   -- some call before was refused, or there is no record
-  nothing : Told
+  nothing : Said
 
-abbrev pub onModel : Option Model → (Model → Told) → Told
+abbrev pub onModel : Option Model → (Model → Said) → Said
 onModel none f = nothing
 onModel (some x) f = f x
 
-abbrev pub onRecord : Option Record → Told
+abbrev pub onRecord : Option Record → Said
 onRecord none = nothing
 onRecord (some r) = aRecord r
 
-unfoldable pub answerTo : Question → Told
+unfoldable pub answerTo : Question → Said
 answerTo (answersTo g before calls) = onModel (after g before (some (mounted g))) (λ x. numbers (answers g calls x))
 answerTo (answersFrom n g before calls) =
     onModel (after g before (some (mounted g))) (λ x. numbers (answers g calls (withLog (withNext n (x .log)) x)))
@@ -100,9 +98,9 @@ answerTo (recordOf s) = onRecord (decodeRecord s)
 pub record Row : Type 0 where
   pub number : ℕ
   pub asked : Question
-  pub told : Told
+  pub told : Said
 
-abbrev pub C : ℕ → Question → Told → Row
+abbrev pub C : ℕ → Question → Said → Row
 C n q t = record { number = n; asked = q; told = t }
 
 abbrev pub small : Geometry
@@ -306,7 +304,7 @@ abbrev pub ofEachKind : List Call
 ofEachKind = filled ++ (makeDirectory 1 0 (named 99) 3 ∷ [])
 
 -- a loss of operation 2, which removes object 1, as take leaves it
-abbrev pub removalLost : Told
+abbrev pub removalLost : Said
 removalLost = left (encode (record { sequence = 2; program = 0; operation = Operation.remove 1 0 (named 97) }) ++ replicate 1026 0)
 
 -- document 02, K4: remove is two calls
@@ -332,5 +330,5 @@ table = cases ++ (examples ++ (across ++ (spelling ++ removal)))
 
 -- every row: the definitions give what the documents tell
 pub cases-hold : map (λ r. answerTo (r .asked)) table ≡ map (λ r. r .told) table
-unfolding permittedByte allPermitted isDots goodText nameTextOf lowerCase sameName pathTextOf kindOfCode numeral operands member different allUpTo validList validHead differing inBlock objectsOf number counted readParts readRecord begins decodeRecord validObjects validNames validRange tied validParts valid usage every lowest search hasChildren formatted applies apply with unionOf shares directlyPrecedes any closure needed predecessors preceded orderIn reach noted waitingOf issue removed dependentsOf discard earliest waitingAt lowestNumber lookupOf statOf makeOf renameOf writeOf setLengthOf pushOf applying fsyncOf perform performAll issuing effectsOf answerOf leavesOf lookupAnswer lookupOperands statAnswer objectAnswer mounted after answers answerTo encode fields headBytes objectFields nameFields rangeFields bytes pairs patch readAnswer readLeaves readOf takeOf renewOf removeOf without components split onFirst componentsAnswer componentAnswer componentsObjects listing listAnswer listLeaves listOf
+unfolding permittedByte allPermitted isDots goodText nameTextOf lowerCase sameName pathTextOf kindOfCode numeral operands member different allUpTo validList validHead differing inBlock objectsOf number counted readParts readRecord begins decodeRecord validObjects validNames validRange tied validParts valid usage every lowest search hasChildren formatted applies apply with unionOf shares directlyPrecedes any closure needed predecessors preceded orderIn reach noted waitingOf issue removed dependentsOf discard earliest waitingAt lowestNumber pushOf applying fsyncOf perform performAll issuing effectsOf answerOf leavesOf lookupAnswer lookupOperands statAnswer objectAnswer mounted after answers answerTo encode fields headBytes objectFields nameFields rangeFields bytes pairs patch readAnswer readLeaves takeOf renewOf without components split onFirst componentsAnswer componentAnswer componentsObjects listing listAnswer listLeaves
 cases-hold = refl

@@ -29,14 +29,16 @@ use Rattle.volume_questions.specs.Answer.{listAnswer, listLeft, listLeaves, lis
 use Rattle.log.specs.Change.{waitingOf, waitingAt}
 use Rattle.log.specs.Order.{any, before, needed, preceded}
 use Rattle.log.specs.Laws.Order.{direct-decides}
-use Rattle.session.specs.Call.{Geometry, Call, lookup, list, stat, read, createFile, makeDirectory, removeFile, removeDirectory, rename, write, setLength, forder, push, fsync, cut, Answer, answer, resultCount, ownBuffer}
+use Rattle.session.specs.Class.{Question, Change}
+use Rattle.session.specs.Class
+use Rattle.session.specs.Call.{Geometry, Call, question, change, link, recovery, lookup, list, stat, read, createFile, makeDirectory, removeFile, removeDirectory, rename, write, setLength, forder, push, fsync, Answer, answer, resultCount, ownBuffer}
+use Rattle.session.specs.Question.{questionAnswer}
 use Rattle.session.specs.Call
 use Rattle.session.specs.Refusal.{Row, row}
 use Rattle.session.specs.Refusal
-use Rattle.session.specs.Model.{Model, unless, badProgram, isMarked}
+use Rattle.session.specs.Model.{Model, unless, badProgram, isMarked, toldOf}
 use Rattle.session.specs.Issue.{issues, alters, onFound, displaced, removes, writes}
-use Rattle.session.specs.Question.{lookupOf, listOf, statOf, readOf}
-use Rattle.session.specs.Edit.{roomRows, changed, makeRows, makeOf, removeRows, removeOf, renameRows, renameOf, writeRows, writeOf, lengthRows, setLengthOf, forderRows, forderOf}
+use Rattle.session.specs.Edit.{roomRows, changed, changeRows, makeRows, removeRows, renameRows, writeRows, lengthRows, forderRows}
 use Rattle.log.specs.Sends.{applying}
 use Rattle.session.specs.Send.{ofRecord, pushOf, syncAnswer, fsyncOf, noLoss, takeOf, renewOf, syncRows}
 use Rattle.session.specs.Effect.{acceptedEffects, issuing}
@@ -86,6 +88,13 @@ plain-copied p o f own s ReadNoObject n = record { results = refl; own = refl }
 plain-copied p o f own s ReadWrongKind n = record { results = refl; own = refl }
 plain-copied p o f own s BadRange n = record { results = refl; own = refl }
 
+plain-question : (p : ℕ) (v : Volume) (q : Question) → (questionAnswer v q .returned ≡ 0 → ⊥) → Plain (question p q) (questionAnswer v q)
+unfolding listLeaves readLeaves
+plain-question p v (Class.lookup s) n = plain-reached p s (lookupAnswer v s) n
+plain-question p v (Class.list o s) n = plain-listed p o s (listing v o (length v)) (listAnswer v o s) n
+plain-question p v (Class.stat o) n = plain-stat p o (statAnswer v o) n
+plain-question p v (Class.read o f s) n = plain-copied p o f s _ (readAnswer v o f s) n
+
 -- an fsync that is refused neither with 17 nor with 2
 plain-sync : (p o k : ℕ) (x : Model) → (fsyncOf p o k x .returned ≡ 0 → ⊥) → (fsyncOf p o k x .returned ≡ Returned.linkLost → ⊥) → (fsyncOf p o k x .returned ≡ Returned.damaged → ⊥)
     → Plain (fsync p o k) (fsyncOf p o k x)
@@ -111,24 +120,14 @@ module _ (g : Geometry) (x : Model) where
   -- "The other results of a refusal are 0, and no buffer changes": of every refusal but fsync's 17 and 2
   pub refused-plain : (c : Call) → (answerOf g c x .returned ≡ 0 → ⊥) → (answerOf g c x .returned ≡ Returned.linkLost → ⊥)
       → (answerOf g c x .returned ≡ Returned.damaged → (p o k : ℕ) → c ≡ fsync p o k → ⊥) → Plain c (answerOf g c x)
-  unfolding answerOf lookupOf listOf statOf readOf makeOf removeOf renameOf writeOf setLengthOf forderOf pushOf takeOf renewOf listLeaves readLeaves
-  refused-plain (lookup p s) n l d = plain-unless (lookup p s) _ _ (plain-reached p s (lookupAnswer (x .view) s)) n
-  refused-plain (list p o s) n l d = plain-unless (list p o s) _ _ (plain-listed p o s (listing (x .view) o (length (x .view))) (listAnswer (x .view) o s)) n
-  refused-plain (stat p o) n l d = plain-unless (stat p o) _ _ (plain-stat p o (statAnswer (x .view) o)) n
-  refused-plain (read p o f s) n l d = plain-unless (read p o f s) _ _ (plain-copied p o f s _ (readAnswer (x .view) o f s)) n
-  refused-plain (createFile p b t o) n l d = plain-changed (createFile p b t o) p (makeRows (x .view) b t o) n
-  refused-plain (makeDirectory p b t o) n l d = plain-changed (makeDirectory p b t o) p (makeRows (x .view) b t o) n
-  refused-plain (removeFile p b t) n l d = plain-changed (removeFile p b t) p (removeRows isFile (x .view) b t) n
-  refused-plain (removeDirectory p b t) n l d = plain-changed (removeDirectory p b t) p (removeRows isDirectory (x .view) b t) n
-  refused-plain (rename p b t e k) n l d = plain-changed (rename p b t e k) p (renameRows (x .view) b t e k) n
-  refused-plain (write p o f s) n l d = plain-changed (write p o f s) p (writeRows (g .blocks) (x .view) o f s) n
-  refused-plain (setLength p o f) n l d = plain-changed (setLength p o f) p (lengthRows (g .blocks) (x .view) o f) n
-  refused-plain (forder p s) n l d = plain-changed (forder p s) p (forderRows (x .view) s) n
-  refused-plain (push q) n l d = plain-unless (push q) _ _ (λ z. record { results = refl; own = refl }) n
-  refused-plain (fsync p o k) n l d = plain-sync p o k x n l (λ z. d z p o k refl)
-  refused-plain cut n l d = absurd (n refl)
-  refused-plain (Call.take p s) n l d = plain-unless (Call.take p s) _ _ (λ z. absurd (z refl)) n
-  refused-plain (Call.renew p) n l d = plain-unless (Call.renew p) _ _ (λ z. absurd (z refl)) n
+  unfolding answerOf pushOf takeOf renewOf
+  refused-plain (question p q) n l d = plain-unless (question p q) _ _ (plain-question p (x .view) q) n
+  refused-plain (change p c) n l d = plain-changed (change p c) p (changeRows g (x .view) c) n
+  refused-plain (link (Class.push q)) n l d = plain-unless (push q) _ _ (λ z. record { results = refl; own = refl }) n
+  refused-plain (link (Class.fsync p o k)) n l d = plain-sync p o k x n l (λ z. d z p o k refl)
+  refused-plain (link Class.cut) n l d = absurd (n refl)
+  refused-plain (recovery p (Class.take s)) n l d = plain-unless (Call.take p s) _ _ (λ z. absurd (z refl)) n
+  refused-plain (recovery p Class.renew) n l d = plain-unless (Call.renew p) _ _ (λ z. absurd (z refl)) n
 
 -- "Damaged: .. an operation being sent does not apply to the server": only a push and an fsync say so, of well-formed buffers
 pub data Damaged (x : Model) : Call → Type 0 where
@@ -161,6 +160,12 @@ copied-sound ReadBadNumber e = omega arith
 copied-sound ReadNoObject e = omega arith
 copied-sound ReadWrongKind e = omega arith
 copied-sound BadRange e = omega arith
+
+question-sound : (v : Volume) (q : Question) → questionAnswer v q .returned ≡ Returned.damaged → ⊥
+question-sound v (Class.lookup s) e = reached-sound (lookupAnswer v s) e
+question-sound v (Class.list o s) e = listed-sound (listAnswer v o s) e
+question-sound v (Class.stat o) e = stat-sound (statAnswer v o) e
+question-sound v (Class.read o f s) e = copied-sound (readAnswer v o f s) e
 
 -- a table that lacks 2, before an answer that is not 2
 never-damaged : {C : Type 0} (c : Call) (rows : List Row) (a : Answer) → numbered rows ≡ true → lacks Returned.damaged rows ≡ true → (a .returned ≡ Returned.damaged → ⊥)
@@ -220,32 +225,34 @@ module _ (g : Geometry) (x : Model) where
       → changed g c p rows x .returned ≡ Returned.damaged → C
   no-change c p rows n l e = never-damaged c (badProgram p ∷ isMarked (x .log) p ∷ (rows ++ roomRows g c x)) _ n l (λ z. omega arith) e
 
+  -- a change's table has numbers, and none of them is 2
+  change-table : (p : ℕ) (c : Change)
+      → (numbered (changeRows g (x .view) c ++ roomRows g (change p c) x) ≡ true) × (lacks Returned.damaged (changeRows g (x .view) c ++ roomRows g (change p c) x) ≡ true)
+  change-table p (Class.createFile d n o) = (refl, refl)
+  change-table p (Class.makeDirectory d n o) = (refl, refl)
+  change-table p (Class.removeFile d n) = (refl, refl)
+  change-table p (Class.removeDirectory d n) = (refl, refl)
+  change-table p (Class.rename d n b k) = (refl, refl)
+  change-table p (Class.write o f s) = (refl, refl)
+  change-table p (Class.setLength o f) = (refl, refl)
+  change-table p (Class.forder s) = (refl, refl)
+
   pub damaged-why : (c : Call) → answerOf g c x .returned ≡ Returned.damaged → Damaged x c
-  unfolding answerOf lookupOf listOf statOf readOf makeOf removeOf renameOf writeOf setLengthOf forderOf takeOf renewOf
-  damaged-why (lookup p s) e = never-damaged (lookup p s) (badProgram p ∷ isMarked (x .log) p ∷ []) _ refl refl (reached-sound (lookupAnswer (x .view) s)) e
-  damaged-why (list p o s) e = never-damaged (list p o s) (badProgram p ∷ isMarked (x .log) p ∷ []) _ refl refl (listed-sound (listAnswer (x .view) o s)) e
-  damaged-why (stat p o) e = never-damaged (stat p o) (badProgram p ∷ isMarked (x .log) p ∷ []) _ refl refl (stat-sound (statAnswer (x .view) o)) e
-  damaged-why (read p o f s) e = never-damaged (read p o f s) (badProgram p ∷ isMarked (x .log) p ∷ []) _ refl refl (copied-sound (readAnswer (x .view) o f s)) e
-  damaged-why (createFile p d n o) e = no-change (createFile p d n o) p (makeRows (x .view) d n o) refl refl e
-  damaged-why (makeDirectory p d n o) e = no-change (makeDirectory p d n o) p (makeRows (x .view) d n o) refl refl e
-  damaged-why (removeFile p d n) e = no-change (removeFile p d n) p (removeRows isFile (x .view) d n) refl refl e
-  damaged-why (removeDirectory p d n) e = no-change (removeDirectory p d n) p (removeRows isDirectory (x .view) d n) refl refl e
-  damaged-why (rename p d n b k) e = no-change (rename p d n b k) p (renameRows (x .view) d n b k) refl refl e
-  damaged-why (write p o f s) e = no-change (write p o f s) p (writeRows (g .blocks) (x .view) o f s) refl refl e
-  damaged-why (setLength p o f) e = no-change (setLength p o f) p (lengthRows (g .blocks) (x .view) o f) refl refl e
-  damaged-why (forder p s) e = no-change (forder p s) p (forderRows (x .view) s) refl refl e
-  damaged-why (push q) e = push-damaged q x e
-  damaged-why (fsync p o k) e = fsync-damaged p o k x e
-  damaged-why cut e = absurd (omega arith)
-  damaged-why (Call.take p s) e = never-damaged (Call.take p s) (badProgram p ∷ row Returned.none (noLoss p x) ∷ row Returned.shortBuffer (ltb (length s) 1040) ∷ []) _ refl refl (λ z. omega arith) e
-  damaged-why (Call.renew p) e = never-damaged (Call.renew p) (badProgram p ∷ row Returned.lossesLeft (not (noLoss p x)) ∷ []) _ refl refl (λ z. omega arith) e
+  unfolding answerOf takeOf renewOf
+  damaged-why (question p q) e = never-damaged (question p q) (badProgram p ∷ isMarked (x .log) p ∷ []) _ refl refl (question-sound (x .view) q) e
+  damaged-why (change p c) e = let f = change-table p c in no-change (change p c) p (changeRows g (x .view) c) (f .0) (f .1) e
+  damaged-why (link (Class.push q)) e = push-damaged q x e
+  damaged-why (link (Class.fsync p o k)) e = fsync-damaged p o k x e
+  damaged-why (link Class.cut) e = absurd (omega arith)
+  damaged-why (recovery p (Class.take s)) e = never-damaged (Call.take p s) (badProgram p ∷ row Returned.none (noLoss p x) ∷ row Returned.shortBuffer (ltb (length s) 1040) ∷ []) _ refl refl (λ z. omega arith) e
+  damaged-why (recovery p Class.renew) e = never-damaged (Call.renew p) (badProgram p ∷ row Returned.lossesLeft (not (noLoss p x)) ∷ []) _ refl refl (λ z. omega arith) e
 
 -- what an accepted change or forder does and answers: it issues an operation, and perhaps others, and tells the next number
 pub record Changes (g : Geometry) (c : Call) (x : Model) : Type 0 where
   pub program : ℕ
   pub first : Operation
   pub others : List Operation
-  pub effects : (v : Volume) (w : List Record) → v ≡ x .view → acceptedEffects c v w ≡ issuing program (first ∷ others)
+  pub effects : acceptedEffects c (toldOf x) ≡ issuing program (first ∷ others)
   pub results : answerOf g c x .results ≡ x .log .next ∷ []
 
 module _ (g : Geometry) (x : Model) (s : Sound g x) where
@@ -253,66 +260,53 @@ module _ (g : Geometry) (x : Model) (s : Sound g x) where
   told c p rows e = ap (λ (a : Answer). a .results) (accepted-passes c (badProgram p ∷ isMarked (x .log) p ∷ (rows ++ roomRows g c x)) _ e .1)
 
   -- either remove
-  remove-answered : (takes : Entry → Bool) (p d : ℕ) (n : List ℕ) (c : Call) → answerOf g c x ≡ removeOf g c takes p d n x
-      → ((v : Volume) (w : List Record) → (issues v c ≡ removes v d n) × (acceptedEffects c v w ≡ issuing p (issues v c)))
+  remove-answered : (takes : Entry → Bool) (p d : ℕ) (n : List ℕ) (c : Call) → answerOf g c x ≡ changed g c p (removeRows takes (x .view) d n) x
+      → (issues (toldOf x) c ≡ removes (x .view) d n) × (acceptedEffects c (toldOf x) ≡ issuing p (issues (toldOf x) c))
       → answerOf g c x .returned ≡ 0 → Changes g c x
-  unfolding removeOf
   remove-answered takes p d n c by does e =
       let r : changed g c p (removeRows takes (x .view) d n) x .returned ≡ 0 = sym (ap (λ (a : Answer). a .returned) by) ∙ e in
-      let f = remove-accepted g x s takes p d n c (does (x .view) [] .0) r in
+      let f = remove-accepted g x s takes p d n c (does .0) r in
       record {
         program = p;
         first = Operation.remove (f .0) d n;
         others = [];
-        effects =
-            λ v w z.
-            does v w .1 ∙ ap (issuing p) (does v w .0)
-            ∙ ap (λ (h : Option ℕ). issuing p (onFound h (λ o. Operation.remove o d n))) (ap (λ (y : Volume). search y d n) z ∙ f .1);
+        effects = does .1 ∙ ap (issuing p) (does .0) ∙ ap (λ (h : Option ℕ). issuing p (onFound h (λ o. Operation.remove o d n))) (f .1);
         results = ap (λ (a : Answer). a .results) by ∙ told c p (removeRows takes (x .view) d n) r;
       }
 
   pub change-answered : (c : Call) → alters c ≡ true → answerOf g c x .returned ≡ 0 → Changes g c x
-  unfolding answerOf makeOf removeOf renameOf writeOf setLengthOf forderOf
-  change-answered (lookup p t) a e = absurd (false≢true a)
-  change-answered (list p o t) a e = absurd (false≢true a)
-  change-answered (stat p o) a e = absurd (false≢true a)
-  change-answered (read p o f t) a e = absurd (false≢true a)
-  change-answered (createFile p d n o) a e =
-      record { program = p; first = Operation.createFile o d n; others = []; effects = λ v w z. refl; results = told (createFile p d n o) p (makeRows (x .view) d n o) e }
-  change-answered (makeDirectory p d n o) a e =
-      record { program = p; first = Operation.makeDirectory o d n; others = []; effects = λ v w z. refl; results = told (makeDirectory p d n o) p (makeRows (x .view) d n o) e }
-  change-answered (removeFile p d n) a e = remove-answered isFile p d n (removeFile p d n) refl (λ v w. (refl, refl)) e
-  change-answered (removeDirectory p d n) a e = remove-answered isDirectory p d n (removeDirectory p d n) refl (λ v w. (refl, refl)) e
-  change-answered (rename p d n b k) a e =
+  unfolding answerOf
+  change-answered (change p (Class.createFile d n o)) a e =
+      record { program = p; first = Operation.createFile o d n; others = []; effects = refl; results = told (createFile p d n o) p (makeRows (x .view) d n o) e }
+  change-answered (change p (Class.makeDirectory d n o)) a e =
+      record { program = p; first = Operation.makeDirectory o d n; others = []; effects = refl; results = told (makeDirectory p d n o) p (makeRows (x .view) d n o) e }
+  change-answered (change p (Class.removeFile d n)) a e = remove-answered isFile p d n (removeFile p d n) refl (refl, refl) e
+  change-answered (change p (Class.removeDirectory d n)) a e = remove-answered isDirectory p d n (removeDirectory p d n) refl (refl, refl) e
+  change-answered (change p (Class.rename d n b k)) a e =
       let f = rename-accepted g x s p d n b k e in
       record {
         program = p;
         first = Operation.rename (f .0) d b (displaced (f .0) (search (x .view) b k)) n k;
         others = [];
-        effects =
-            λ v w z.
-            ap (λ (y : Volume). issuing p (issues y (rename p d n b k))) z
-            ∙ ap (λ (h : Option ℕ). issuing p (onFound h (λ o. Operation.rename o d b (displaced o (search (x .view) b k)) n k))) (f .1);
+        effects = ap (λ (h : Option ℕ). issuing p (onFound h (λ o. Operation.rename o d b (displaced o (search (x .view) b k)) n k))) (f .1);
         results = told (rename p d n b k) p (renameRows (x .view) d n b k) e;
       }
-  change-answered (write p o f t) a e =
+  change-answered (change p (Class.write o f t)) a e =
       let k = writes-some (length (contentsOf (entryAt (x .view) o))) o f t (write-some g x s p o f t e) in
       record {
         program = p;
         first = k .0;
         others = k .1;
-        effects = λ v w z. ap (λ (y : Volume). issuing p (writes y o f t)) z ∙ ap (issuing p) (k .2);
+        effects = ap (issuing p) (k .2);
         results = told (write p o f t) p (writeRows (g .blocks) (x .view) o f t) e;
       }
-  change-answered (setLength p o f) a e =
-      record { program = p; first = Operation.setLength o f; others = []; effects = λ v w z. refl; results = told (setLength p o f) p (lengthRows (g .blocks) (x .view) o f) e }
-  change-answered (forder p t) a e =
-      record { program = p; first = Operation.forder (objectsOf t); others = []; effects = λ v w z. refl; results = told (forder p t) p (forderRows (x .view) t) e }
-  change-answered (push q) a e = absurd (false≢true a)
-  change-answered (fsync p o k) a e = absurd (false≢true a)
-  change-answered cut a e = absurd (false≢true a)
-  change-answered (Call.take p t) a e = absurd (false≢true a)
-  change-answered (Call.renew p) a e = absurd (false≢true a)
+  change-answered (change p (Class.setLength o f)) a e =
+      record { program = p; first = Operation.setLength o f; others = []; effects = refl; results = told (setLength p o f) p (lengthRows (g .blocks) (x .view) o f) e }
+  change-answered (change p (Class.forder t)) a e =
+      record { program = p; first = Operation.forder (objectsOf t); others = []; effects = refl; results = told (forder p t) p (forderRows (x .view) t) e }
+  change-answered (question p q) a e = absurd (false≢true a)
+  change-answered (link l) a e = absurd (false≢true a)
+  change-answered (recovery p l) a e = absurd (false≢true a)
 
 -- an accepted fsync answers how many it needs
 pub sync-answered : (p o k : ℕ) (x : Model) → fsyncOf p o k x .returned ≡ 0 → fsyncOf p o k x .results ≡ length (needed o (waitingOf (x .log .slots))) ∷ []

@@ -18,12 +18,12 @@ use Rattle.log.specs.Change.{waitingOf, waitingAt, earliest, isLossOf}
 use Rattle.log.specs.Laws.Change.{noted-waiting, waiting-in-order}
 use Rattle.log.specs.Order.{needed, preceded}
 use Rattle.log.specs.Laws.Order.{direct-decides}
-use Rattle.session.specs.Call.{Geometry, Call, lookup, list, stat, read, createFile, makeDirectory, removeFile, removeDirectory, rename, write, setLength, forder, push, fsync, cut, Answer, answer}
+use Rattle.session.specs.Class
+use Rattle.session.specs.Call.{Geometry, Call, question, change, link, recovery, removeFile, removeDirectory, push, fsync, Answer, answer}
 use Rattle.session.specs.Call
 use Rattle.session.specs.Refusal.{Row, row}
-use Rattle.session.specs.Model.{Model, unless, badProgram}
+use Rattle.session.specs.Model.{Model, unless, badProgram, toldOf}
 use Rattle.session.specs.Issue.{onFound, displaced, removes}
-use Rattle.session.specs.Question.{lookupOf, listOf, statOf, readOf}
 use Rattle.log.specs.Sends.{applying}
 use Rattle.session.specs.Send.{ofRecord, pushOf, syncAnswer, syncRows, fsyncOf, noLoss, takeOf, renewOf}
 use Rattle.session.specs.Effect.{note, discard, perform, sends, issuing, acceptedEffects, brokenSync, refusedEffects, effectsOf}
@@ -199,48 +199,34 @@ module _ (g : Geometry) where
   remove-possible p d n x a = issued-possible p x _ _ (ap (λ (f : Option ℕ). onFound f (λ o. Operation.remove o d n)) (a .1)) (a .2)
 
   -- an accepted call
-  accepted-possible : (c : Call) (x : Model) → Sound g x → answerOf g c x .returned ≡ 0 → AllPossible g x (acceptedEffects c (x .view) (waitingOf (x .log .slots)))
-  unfolding answerOf lookupOf listOf statOf readOf renewOf
-  accepted-possible (lookup p s) x h e = (program-good (lookup p s) p _ _ refl e, tt)
-  accepted-possible (list p o s) x h e = (program-good (list p o s) p _ _ refl e, tt)
-  accepted-possible (stat p o) x h e = (program-good (stat p o) p _ _ refl e, tt)
-  accepted-possible (read p o f s) x h e = (program-good (read p o f s) p _ _ refl e, tt)
-  accepted-possible (createFile p d n o) x h e = issued-possible p x _ _ refl (create-accepted g x h p d n o e)
-  accepted-possible (makeDirectory p d n o) x h e = issued-possible p x _ _ refl (make-accepted g x h p d n o e)
-  accepted-possible (removeFile p d n) x h e = remove-possible p d n x (remove-accepted g x h isFile p d n (removeFile p d n) refl e)
-  accepted-possible (removeDirectory p d n) x h e = remove-possible p d n x (remove-accepted g x h isDirectory p d n (removeDirectory p d n) refl e)
-  accepted-possible (rename p d n b k) x h e =
+  accepted-possible : (c : Call) (x : Model) → Sound g x → answerOf g c x .returned ≡ 0 → AllPossible g x (acceptedEffects c (toldOf x))
+  unfolding answerOf renewOf
+  accepted-possible (question p q) x h e = (program-good (question p q) p _ _ refl e, tt)
+  accepted-possible (change p (Class.createFile d n o)) x h e = issued-possible p x _ _ refl (create-accepted g x h p d n o e)
+  accepted-possible (change p (Class.makeDirectory d n o)) x h e = issued-possible p x _ _ refl (make-accepted g x h p d n o e)
+  accepted-possible (change p (Class.removeFile d n)) x h e = remove-possible p d n x (remove-accepted g x h isFile p d n (removeFile p d n) refl e)
+  accepted-possible (change p (Class.removeDirectory d n)) x h e = remove-possible p d n x (remove-accepted g x h isDirectory p d n (removeDirectory p d n) refl e)
+  accepted-possible (change p (Class.rename d n b k)) x h e =
       let a = rename-accepted g x h p d n b k e in
       issued-possible p x _ _ (ap (λ (f : Option ℕ). onFound f (λ o. Operation.rename o d b (displaced o (search (x .view) b k)) n k)) (a .1)) (a .2)
-  accepted-possible (write p o f s) x h e = issued-possible p x _ _ refl (write-accepted g x h p o f s e)
-  accepted-possible (setLength p o f) x h e = issued-possible p x _ _ refl (length-accepted g x h p o f e)
-  accepted-possible (forder p s) x h e = issued-possible p x _ _ refl (forder-accepted g x h p s e)
-  accepted-possible (push q) x h e = (push-accepted q x e, tt)
-  accepted-possible (fsync p o k) x h e = sync-whole p o k x h e
-  accepted-possible cut x h e = (tt, tt)
-  accepted-possible (Call.take p s) x h e = (take-accepted p s x e, tt)
-  accepted-possible (Call.renew p) x h e = (tt, tt)
+  accepted-possible (change p (Class.write o f s)) x h e = issued-possible p x _ _ refl (write-accepted g x h p o f s e)
+  accepted-possible (change p (Class.setLength o f)) x h e = issued-possible p x _ _ refl (length-accepted g x h p o f e)
+  accepted-possible (change p (Class.forder s)) x h e = issued-possible p x _ _ refl (forder-accepted g x h p s e)
+  accepted-possible (link (Class.push q)) x h e = (push-accepted q x e, tt)
+  accepted-possible (link (Class.fsync p o k)) x h e = sync-whole p o k x h e
+  accepted-possible (link Class.cut) x h e = (tt, tt)
+  accepted-possible (recovery p (Class.take s)) x h e = (take-accepted p s x e, tt)
+  accepted-possible (recovery p Class.renew) x h e = (tt, tt)
 
   -- a refused one: only fsync has effects
-  refused-possible : (c : Call) (x : Model) → Sound g x → AllPossible g x (refusedEffects c (answerOf g c x) (waitingOf (x .log .slots)))
+  refused-possible : (c : Call) (x : Model) → Sound g x → AllPossible g x (refusedEffects c (answerOf g c x) (toldOf x))
   unfolding answerOf
-  refused-possible (lookup p s) x h = tt
-  refused-possible (list p o s) x h = tt
-  refused-possible (stat p o) x h = tt
-  refused-possible (read p o f s) x h = tt
-  refused-possible (createFile p d n o) x h = tt
-  refused-possible (makeDirectory p d n o) x h = tt
-  refused-possible (removeFile p d n) x h = tt
-  refused-possible (removeDirectory p d n) x h = tt
-  refused-possible (rename p d n b k) x h = tt
-  refused-possible (write p o f s) x h = tt
-  refused-possible (setLength p o f) x h = tt
-  refused-possible (forder p s) x h = tt
-  refused-possible (push q) x h = tt
-  refused-possible (fsync p o k) x h = sync-broken p o k x h
-  refused-possible cut x h = tt
-  refused-possible (Call.take p s) x h = tt
-  refused-possible (Call.renew p) x h = tt
+  refused-possible (question p q) x h = tt
+  refused-possible (change p c) x h = tt
+  refused-possible (link (Class.push q)) x h = tt
+  refused-possible (link (Class.fsync p o k)) x h = sync-broken p o k x h
+  refused-possible (link Class.cut) x h = tt
+  refused-possible (recovery p l) x h = tt
 
   -- every effect of every call, accepted or refused, may take place
   pub call-possible : (c : Call) (x : Model) → Sound g x → AllPossible g x (effectsIn g c x)
@@ -248,7 +234,7 @@ module _ (g : Geometry) where
   call-possible c x s = go (eqb (answerOf g c x .returned) Returned.accepted) refl
     where
       go : (b : Bool) → eqb (answerOf g c x .returned) Returned.accepted ≡ b
-          → AllPossible g x (cond b (acceptedEffects c (x .view) (waitingOf (x .log .slots))) (refusedEffects c (answerOf g c x) (waitingOf (x .log .slots))))
+          → AllPossible g x (cond b (acceptedEffects c (toldOf x)) (refusedEffects c (answerOf g c x) (toldOf x)))
       go true e = accepted-possible c x s (eqb-true _ _ e)
       go false e = refused-possible c x s
 

@@ -25,9 +25,9 @@ use Rattle.volume_apply.specs.Apply.{applies, apply, isAbsent, isAt, hasRoom, y
 use Rattle.log.specs.Order.{any}
 use Rattle.session.specs.Call.{Geometry, Call, createFile, makeDirectory, rename, write, setLength, forder, inRange}
 use Rattle.session.specs.Refusal.{Row}
-use Rattle.session.specs.Model.{Model, badProgram, isMarked, isBad, isLong, outside, isFree}
+use Rattle.session.specs.Model.{Model, badProgram, isMarked, isBad, isLong, outside, isFree, toldOf}
 use Rattle.session.specs.Issue.{displaced, onFound, onBytes, writes, removes, issues}
-use Rattle.session.specs.Edit.{roomRows, changed, makeRows, makeOf, removeRows, removeOf, renameRows, renameOf, writeRows, writeOf, lengthRows, setLengthOf, forderRows, forderOf, ofFound, wrongRename, badRange}
+use Rattle.session.specs.Edit.{roomRows, changed, makeRows, removeRows, renameRows, writeRows, lengthRows, forderRows, ofFound, wrongRename, badRange}
 use Rattle.session.specs.Laws.Refusal.{Passed, numbered, passed, accepted-passes, neither}
 use Rattle.session.specs.Laws.Issue.{Recordable, EntryFields, RangeFields, create-recordable, make-recordable, remove-recordable, rename-recordable, replace-recordable, overwrite-recordable, append-recordable, length-recordable, forder-recordable}
 use Rattle.session.specs.Laws.Possible.{Sound}
@@ -112,9 +112,8 @@ module _ (g : Geometry) (x : Model) (s : Sound g x) where
       go (suc i) k = omega arith
 
   -- create file and make directory
-  make-fit : (p d : ℕ) (n : List ℕ) (o : ℕ) (c : Call) → length (issues (x .view) c) ≡ 1 → makeOf g c p d n o x .returned ≡ 0
+  make-fit : (p d : ℕ) (n : List ℕ) (o : ℕ) (c : Call) → length (issues (toldOf x) c) ≡ 1 → changed g c p (makeRows (x .view) d n o) x .returned ≡ 0
       → (p < 32) × EntryFields (g .objects) o d n × (hasRoom (x .view) o d n ≡ true) × (length (x .log .slots) + 1 ≤ g .capacity) × (x .log .next + 1 ≤ 4294967295)
-  unfolding makeOf
   make-fit p d n o c one e =
       let a = change-passed g c p (makeRows (x .view) d n o) x refl e in
       let r = a .1 in
@@ -125,8 +124,8 @@ module _ (g : Geometry) (x : Model) (s : Sound g x) where
       let dir : isDirectory (entryAt (x .view) d) ≡ true = not-false _ (r .1 .1 .1 .1 .0) in
       let absent : isAbsent (search (x .view) d n) ≡ true = not-false _ (n₁₀ .0) in
       let oin : o < length (x .view) = inside (x .view) o (n₇' .0) in
-      let room : length (x .log .slots) + length (issues (x .view) c) ≤ g .capacity = ltb-false _ _ (r .1 .1 .1 .1 .1 .1 .0) in
-      let number : x .log .next + length (issues (x .view) c) ≤ 4294967295 = ltb-false _ _ (r .1 .1 .1 .1 .1 .1 .1 .0) in (
+      let room : length (x .log .slots) + length (issues (toldOf x) c) ≤ g .capacity = ltb-false _ _ (r .1 .1 .1 .1 .1 .1 .0) in
+      let number : x .log .next + length (issues (toldOf x) c) ≤ 4294967295 = ltb-false _ _ (r .1 .1 .1 .1 .1 .1 .1 .0) in (
         a .0,
         record { low = omega arith; object = below o (n₇' .0); parent = below d (n₇ .0); text = text-fine n (r .0) (r .1 .0) },
         rw (dir, absent, lt-ltb o (length (x .view)) oin, n₁₀ .1),
@@ -134,13 +133,13 @@ module _ (g : Geometry) (x : Model) (s : Sound g x) where
         omega arith,
       )
 
-  pub create-accepted : (p d : ℕ) (n : List ℕ) (o : ℕ) → makeOf g (createFile p d n o) p d n o x .returned ≡ 0 → Issuing g x p (Operation.createFile o d n ∷ [])
+  pub create-accepted : (p d : ℕ) (n : List ℕ) (o : ℕ) → changed g (createFile p d n o) p (makeRows (x .view) d n o) x .returned ≡ 0 → Issuing g x p (Operation.createFile o d n ∷ [])
   unfolding applies
   create-accepted p d n o e =
       let f = make-fit p d n o (createFile p d n o) refl e in
       record { program = f .0; fit = (f .2, create-recordable (g .objects) (g .blocks) few o d n (f .1), tt); room = f .3; number = f .4 }
 
-  pub make-accepted : (p d : ℕ) (n : List ℕ) (o : ℕ) → makeOf g (makeDirectory p d n o) p d n o x .returned ≡ 0 → Issuing g x p (Operation.makeDirectory o d n ∷ [])
+  pub make-accepted : (p d : ℕ) (n : List ℕ) (o : ℕ) → changed g (makeDirectory p d n o) p (makeRows (x .view) d n o) x .returned ≡ 0 → Issuing g x p (Operation.makeDirectory o d n ∷ [])
   unfolding applies
   make-accepted p d n o e =
       let f = make-fit p d n o (makeDirectory p d n o) refl e in
@@ -153,9 +152,8 @@ module _ (g : Geometry) (x : Model) (s : Sound g x) where
   removed-fit d n o dir is kids = rw (dir, is, at-found o, kids)
 
   -- what an accepted remove of either kind found
-  pub remove-accepted : (takes : Entry → Bool) (p d : ℕ) (n : List ℕ) (c : Call) → issues (x .view) c ≡ removes (x .view) d n → removeOf g c takes p d n x .returned ≡ 0
+  pub remove-accepted : (takes : Entry → Bool) (p d : ℕ) (n : List ℕ) (c : Call) → issues (toldOf x) c ≡ removes (x .view) d n → changed g c p (removeRows takes (x .view) d n) x .returned ≡ 0
       → (o : ℕ) × (search (x .view) d n ≡ some o) × Issuing g x p (Operation.remove o d n ∷ [])
-  unfolding removeOf
   remove-accepted takes p d n c issued e =
       let v = x .view in
       let a = change-passed g c p (removeRows takes (x .view) d n) x refl e in
@@ -167,15 +165,15 @@ module _ (g : Geometry) (x : Model) (s : Sound g x) where
       let o = one .0 in
       let is = one .1 in
       let kids : hasChildren v o ≡ false = ap (λ (f : Option ℕ). ofFound f (hasChildren v)) (sym is) ∙ r .1 .1 .1 .1 .1 .0 in
-      let count : length (issues v c) ≡ 1 = ap length issued ∙ ap (λ (f : Option ℕ). length (onFound f (λ i. Operation.remove i d n))) is in
-      let room : length (x .log .slots) + length (issues v c) ≤ g .capacity = ltb-false _ _ (r .1 .1 .1 .1 .1 .1 .0) in
-      let number : x .log .next + length (issues v c) ≤ 4294967295 = ltb-false _ _ (r .1 .1 .1 .1 .1 .1 .1 .0) in
+      let count : length (issues (toldOf x) c) ≡ 1 = ap length issued ∙ ap (λ (f : Option ℕ). length (onFound f (λ i. Operation.remove i d n))) is in
+      let room : length (x .log .slots) + length (issues (toldOf x) c) ≤ g .capacity = ltb-false _ _ (r .1 .1 .1 .1 .1 .1 .0) in
+      let number : x .log .next + length (issues (toldOf x) c) ≤ 4294967295 = ltb-false _ _ (r .1 .1 .1 .1 .1 .1 .1 .0) in
       let f : EntryFields (g .objects) o d n =
       record { low = search-inside v d n o is .0; object = found-below d n o is; parent = below d (r .1 .1 .0); text = text-fine n (r .0) (r .1 .0) } in
       (o, is, record { program = a .0; fit = (removed-fit d n o dir is kids, remove-recordable (g .objects) (g .blocks) few o d n f, tt); room = omega arith; number = omega arith })
 
-  pub length-accepted : (p o f : ℕ) → setLengthOf g p o f x .returned ≡ 0 → Issuing g x p (Operation.setLength o f ∷ [])
-  unfolding setLengthOf applies
+  pub length-accepted : (p o f : ℕ) → changed g (setLength p o f) p (lengthRows (g .blocks) (x .view) o f) x .returned ≡ 0 → Issuing g x p (Operation.setLength o f ∷ [])
+  unfolding applies
   length-accepted p o f e =
       let a = change-passed g (setLength p o f) p (lengthRows (g .blocks) (x .view) o f) x refl e in
       let r = a .1 in
@@ -251,14 +249,12 @@ module _ (g : Geometry) (x : Model) (s : Sound g x) where
           )
 
   -- an accepted write has some bytes
-  pub write-some : (p o f : ℕ) (d : List ℕ) → writeOf g p o f d x .returned ≡ 0 → 1 ≤ length d
-  unfolding writeOf
+  pub write-some : (p o f : ℕ) (d : List ℕ) → changed g (write p o f d) p (writeRows (g .blocks) (x .view) o f d) x .returned ≡ 0 → 1 ≤ length d
   write-some p o f d e =
       let r = change-passed g (write p o f d) p (writeRows (g .blocks) (x .view) o f d) x refl e .1 in
       write-range f (length d) (length (contentsOf (entryAt (x .view) o))) (r .1 .1 .1 .0) .0
 
-  pub write-accepted : (p o f : ℕ) (d : List ℕ) → writeOf g p o f d x .returned ≡ 0 → Issuing g x p (writes (x .view) o f d)
-  unfolding writeOf
+  pub write-accepted : (p o f : ℕ) (d : List ℕ) → changed g (write p o f d) p (writeRows (g .blocks) (x .view) o f d) x .returned ≡ 0 → Issuing g x p (writes (x .view) o f d)
   write-accepted p o f d e =
       let a = change-passed g (write p o f d) p (writeRows (g .blocks) (x .view) o f d) x refl e in
       let r = a .1 in
@@ -288,8 +284,8 @@ module _ (g : Geometry) (x : Model) (s : Sound g x) where
       let f = few in
       rw (le-leb o 255 (omega arith)) (all-small l (a .1))
 
-  pub forder-accepted : (p : ℕ) (d : List ℕ) → forderOf g p d x .returned ≡ 0 → Issuing g x p (Operation.forder (objectsOf d) ∷ [])
-  unfolding forderOf applies validList
+  pub forder-accepted : (p : ℕ) (d : List ℕ) → changed g (forder p d) p (forderRows (x .view) d) x .returned ≡ 0 → Issuing g x p (Operation.forder (objectsOf d) ∷ [])
+  unfolding applies validList
   forder-accepted p d e =
       let l = objectsOf d in
       let a = change-passed g (forder p d) p (forderRows (x .view) d) x refl e in
@@ -342,9 +338,8 @@ module _ (g : Geometry) (x : Model) (s : Sound g x) where
   unfolding applies
   renamed-fit d e o n k t dir dir₂ is stay y = rw (dir, dir₂, is, at-found o, stays-there (isDirectory (entryAt (x .view) o)) (eqb d e) stay, y)
 
-  pub rename-accepted : (p d : ℕ) (n : List ℕ) (e : ℕ) (k : List ℕ) → renameOf g p d n e k x .returned ≡ 0
+  pub rename-accepted : (p d : ℕ) (n : List ℕ) (e : ℕ) (k : List ℕ) → changed g (rename p d n e k) p (renameRows (x .view) d n e k) x .returned ≡ 0
       → (o : ℕ) × (search (x .view) d n ≡ some o) × Issuing g x p (Operation.rename o d e (displaced o (search (x .view) e k)) n k ∷ [])
-  unfolding renameOf
   rename-accepted p d n e k acc =
       let v = x .view in
       let a = change-passed g (rename p d n e k) p (renameRows (x .view) d n e k) x refl acc in
@@ -365,9 +360,9 @@ module _ (g : Geometry) (x : Model) (s : Sound g x) where
       let q₉ = neither (isDirectory (entryAt v o) && not (eqb d e)) (ofFound t (λ i. not (eqb (kindNumber (entryAt v i)) (kindNumber (entryAt v o)))))
       (ap (λ (f : Option ℕ). ofFound f (wrongRename v d e k)) (sym is) ∙ n₉ .1) in
       let kids : ofFound t (hasChildren v) ≡ false = ap (λ (f : Option ℕ). ofFound f (λ i. ofFound (displaced i (search v e k)) (hasChildren v))) (sym is) ∙ r .1 .1 .1 .1 .1 .0 in
-      let count : length (issues v (rename p d n e k)) ≡ 1 = ap (λ (f : Option ℕ). length (onFound f (λ i. Operation.rename i d e (displaced i (search v e k)) n k))) is in
-      let room : length (x .log .slots) + length (issues v (rename p d n e k)) ≤ g .capacity = ltb-false _ _ (r .1 .1 .1 .1 .1 .1 .0) in
-      let number : x .log .next + length (issues v (rename p d n e k)) ≤ 4294967295 = ltb-false _ _ (r .1 .1 .1 .1 .1 .1 .1 .0) in
+      let count : length (issues (toldOf x) (rename p d n e k)) ≡ 1 = ap (λ (f : Option ℕ). length (onFound f (λ i. Operation.rename i d e (displaced i (search v e k)) n k))) is in
+      let room : length (x .log .slots) + length (issues (toldOf x) (rename p d n e k)) ≤ g .capacity = ltb-false _ _ (r .1 .1 .1 .1 .1 .1 .0) in
+      let number : x .log .next + length (issues (toldOf x) (rename p d n e k)) ≤ 4294967295 = ltb-false _ _ (r .1 .1 .1 .1 .1 .1 .1 .0) in
       let f : EntryFields (g .objects) o d n =
       record { low = search-inside v d n o is .0; object = found-below d n o is; parent = below d (n₇ .0); text = text-fine n (n₅ .0) (n₆ .0) } in
       let y = displaced-fit o d e n k f (below e (n₇ .1)) (text-fine k (n₅ .1) (n₆ .1)) (search v e k) refl (q₉ .1) kids in

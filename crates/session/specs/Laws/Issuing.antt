@@ -14,7 +14,8 @@ use Rattle.session.specs.Call.{Geometry}
 use Rattle.session.specs.Model.{Model}
 use Rattle.session.specs.Effect.{note, issue, perform, issuing}
 use Rattle.session.specs.Laws.Issue.{Recordable}
-use Rattle.session.specs.Laws.Possible.{Issuable, AllPossible}
+use Rattle.session.specs.Laws.Possible.{Sound, Issuable, AllPossible}
+use Rattle.session.specs.Laws.Effect.{perform-sound}
 
 -- each applies to the view as those before it leave it, and can be recorded
 abbrev pub FitInTurn : ℕ → ℕ → Volume → List Operation → Type 0
@@ -57,6 +58,12 @@ issuing-rest g p o os x i =
     let room = i .room in
     let number = i .number in
     record { program = i .program; fit = subst (λ (v : Volume). FitInTurn (g .objects) (g .blocks) v os) (sym (n .0)) (i .fit .2); room = omega arith; number = omega arith }
+
+-- what the first leaves is sound
+pub issued-sound : (g : Geometry) (p : ℕ) (o : Operation) (os : List Operation) (x : Model) → Sound g x → Issuing g x p (o ∷ os)
+    → Sound g (perform (issue p o) (perform (note p (operands o)) x))
+issued-sound g p o os x s i =
+    perform-sound g (perform (note p (operands o)) x) (issue p o) (perform-sound g x (note p (operands o)) s (i .program)) (note-issuable g p o os x i)
 
 pub issuing-possible : (g : Geometry) (p : ℕ) (os : List Operation) (x : Model) → Issuing g x p os → AllPossible g x (issuing p os)
 unfolding issuing

@@ -12,16 +12,17 @@ use Rattle.log.specs.Slot.{wellFormedLog}
 use Rattle.log.specs.Order.{any, before}
 use Rattle.log.specs.Change.{waitingOf, waitingAt, earliest, isLossOf}
 use Rattle.session.specs.Call.{Geometry, inRange}
-use Rattle.session.specs.Model.{Model}
+use Rattle.session.specs.Model.{Model, agreeing}
 use Rattle.session.specs.Effect.{Effect, note, issue, send, discard, take, renew, perform}
 use Rattle.session.specs.Laws.Issue.{Recordable}
 
--- a geometry in range, and a view, a server volume and a log that are well formed for it
+-- a geometry in range, and a view, a server volume and a log that are well formed for it and agree
 pub record Sound (g : Geometry) (x : Model) : Type 0 where
   pub range : inRange g ≡ true
   pub server : wellFormed (g .objects) (g .blocks) (x .server) ≡ true
   pub view : wellFormed (g .objects) (g .blocks) (x .view) ≡ true
   pub log : wellFormedLog (g .objects) (g .blocks) (g .capacity) (x .log) ≡ true
+  pub agree : agreeing x ≡ true
 
 -- an operation that may be issued: its program, room and a number, and that it applies to the view and can be recorded
 pub record Issuable (g : Geometry) (x : Model) (p : ℕ) (o : Operation) : Type 0 where

@@ -1,12 +1,13 @@
--- What a table of refusals gives: the least number among the rows that hold.
-use Prim.Native.Nat.{ℕ, min, _≤_}
+-- What a table of refusals gives: the number of the lowest rank among the rows that hold.
+use Prim.Native.Nat.{ℕ, _≤_}
 use native.Mathlib.Omega.{arith}
 use mathlib.Core.Path.{_≡_, refl, sym, ap, _∙_}
 use mathlib.Core.List.{List, [], _∷_, List·Memᴰ, List·Memᴰ·head, List·Memᴰ·tail, List·Memᴰ·not-nil, List·Memᴰ·cases-cons}
 use mathlib.Core.Logic.{_⊎_, inl, inr, ⊎-elim}
 use mathlib.Core.Bool.{Bool, true, false, not, _&&_, _||_, cond, false≢true, and-eq-true-iff}
-use lib.Dec.{eqb}
-use borrow.Author.Tests.{eqb-true, eqb-false, not-true}
+use lib.Dec.{leb, eqb}
+use borrow.Author.Tests.{leb-true, leb-false, eqb-true, eqb-false, not-true}
+use Rattle.returned.specs.Returned.{rankOf}
 use Rattle.session.specs.Call.{Call, Answer, refusal}
 use Rattle.session.specs.Refusal.{Row, lower, lowestNumber}
 use Rattle.session.specs.Model.{unless}
@@ -21,37 +22,32 @@ abbrev pub numbered : List Row → Bool
 numbered [] = true
 numbered (r ∷ l) = not (eqb (r .number) 0) && numbered l
 
--- the lower of two numbers is one of them, and is not above either that is none
+-- the lower of two numbers is one of them, and is not above either in rank, unless that is none
 pub record Lower (a b n : ℕ) : Type 0 where
   pub one : (n ≡ a) ⊎ (n ≡ b)
-  pub first : (a ≡ 0 → ⊥) → (n ≤ a) × (n ≡ 0 → ⊥)
-  pub second : (b ≡ 0 → ⊥) → (n ≤ b) × (n ≡ 0 → ⊥)
+  pub first : (a ≡ 0 → ⊥) → (rankOf n ≤ rankOf a) × (n ≡ 0 → ⊥)
+  pub second : (b ≡ 0 → ⊥) → (rankOf n ≤ rankOf b) × (n ≡ 0 → ⊥)
 
 pub lower-is : (a b : ℕ) → Lower a b (lower a b)
-lower-is a b = go (eqb a 0) (eqb b 0) refl refl
+lower-is a b = go (eqb a 0) (eqb b 0) (leb (rankOf a) (rankOf b)) refl refl refl
   where
-    go : (s t : Bool) → eqb a 0 ≡ s → eqb b 0 ≡ t → Lower a b (cond s b (cond t a (min a b)))
-    go true t e f = let z = eqb-true a 0 e in record { one = inr refl; first = λ n. absurd (n z); second = λ n. (omega arith, n) }
-    go false true e f = let z = eqb-true b 0 f in record { one = inl refl; first = λ n. (omega arith, n); second = λ n. absurd (n z) }
-    go false false e f =
-        let za = eqb-false a 0 e in
-        let zb = eqb-false b 0 f in
-        record { one = either; first = λ n. (omega arith, λ k. omega arith); second = λ n. (omega arith, λ k. omega arith) }
-      where
-        either : (min a b ≡ a) ⊎ (min a b ≡ b)
-        either = pick (native.Mathlib.Decide.decLe a b)
-          where
-            pick : Dec (a ≤ b) → (min a b ≡ a) ⊎ (min a b ≡ b)
-            pick (yes h) = inl (omega arith)
-            pick (no h) = inr (omega arith)
+    go : (s t u : Bool) → eqb a 0 ≡ s → eqb b 0 ≡ t → leb (rankOf a) (rankOf b) ≡ u → Lower a b (cond s b (cond t a (cond u a b)))
+    go true t u e f o = let z = eqb-true a 0 e in record { one = inr refl; first = λ n. absurd (n z); second = λ n. (omega arith, n) }
+    go false true u e f o = let z = eqb-true b 0 f in record { one = inl refl; first = λ n. (omega arith, n); second = λ n. absurd (n z) }
+    go false false true e f o =
+        let le = leb-true (rankOf a) (rankOf b) o in
+        record { one = inl refl; first = λ n. (omega arith, n); second = λ n. (le, eqb-false a 0 e) }
+    go false false false e f o =
+        let gt = leb-false (rankOf a) (rankOf b) o in
+        record { one = inr refl; first = λ n. (omega arith, eqb-false b 0 f); second = λ n. (omega arith, n) }
 
--- "The lowest number wins": the number is that of a row that holds, and no row that holds has a lower one
+-- "The lowest number wins": the number is that of a row that holds, and no row that holds has one of lower rank
 pub record Wins (l : List Row) (n : ℕ) : Type 0 where
   pub row : Row
   pub among : List·Memᴰ row l
   pub holds : row .holds ≡ true
   pub number : row .number ≡ n
-  pub least : (r : Row) → List·Memᴰ r l → r .holds ≡ true → n ≤ r .number
+  pub least : (r : Row) → List·Memᴰ r l → r .holds ≡ true → rankOf n ≤ rankOf (r .number)
 
 -- a table none of whose rows holds gives 0, and any other the least number
 pub data Judged (l : List Row) : Type 0 where
@@ -89,7 +85,7 @@ judged (r ∷ l) h = go (r .holds) refl (judged l (and-eq-true-iff (not (eqb (r 
           among = List·Memᴰ·tail (w .among);
           holds = w .holds;
           number = w .number ∙ sym same;
-          least = λ s m k. ⊎-elim (λ (z : s ≡ r). no e (ap (λ (u : Row). u .holds) (sym z) ∙ k)) (λ (z : List·Memᴰ s l). let y = w .least s z k in omega arith) (List·Memᴰ·cases-cons m);
+          least = λ s m k. ⊎-elim (λ (z : s ≡ r). no e (ap (λ (u : Row). u .holds) (sym z) ∙ k)) (λ (z : List·Memᴰ s l). let y = w .least s z k in let q = ap rankOf same in omega arith) (List·Memᴰ·cases-cons m);
         })
     go true e (none p z) =
         let same = is true e in
@@ -101,14 +97,14 @@ judged (r ∷ l) h = go (r .holds) refl (judged l (and-eq-true-iff (not (eqb (r 
           among = List·Memᴰ·head refl;
           holds = e;
           number = sym (same ∙ n);
-          least = λ s m k. ⊎-elim (λ (y : s ≡ r). let v = ap (λ (u : Row). u .number) y in omega arith) (λ (y : List·Memᴰ s l). absurd (unheld p s y k)) (List·Memᴰ·cases-cons m);
+          least = λ s m k. ⊎-elim (λ (y : s ≡ r). let v = ap (λ (u : Row). rankOf (u .number)) y in let q = ap rankOf (same ∙ n) in omega arith) (λ (y : List·Memᴰ s l). absurd (unheld p s y k)) (List·Memᴰ·cases-cons m);
         })
     go true e (wins z w) =
         let same = is true e in
         let low = lower-is (r .number) (lowestNumber l) in
-        let above : (s : Row) → List·Memᴰ s (r ∷ l) → s .holds ≡ true → lowestNumber (r ∷ l) ≤ s .number =
-        λ s m k. ⊎-elim (λ (y : s ≡ r). let v = ap (λ (u : Row). u .number) y in let f = low .first some .0 in omega arith)
-        (λ (y : List·Memᴰ s l). let v = w .least s y k in let f = low .second z .0 in omega arith) (List·Memᴰ·cases-cons m) in
+        let above : (s : Row) → List·Memᴰ s (r ∷ l) → s .holds ≡ true → rankOf (lowestNumber (r ∷ l)) ≤ rankOf (s .number) =
+        λ s m k. ⊎-elim (λ (y : s ≡ r). let v = ap (λ (u : Row). rankOf (u .number)) y in let q = ap rankOf same in let f = low .first some .0 in omega arith)
+        (λ (y : List·Memᴰ s l). let v = w .least s y k in let q = ap rankOf same in let f = low .second z .0 in omega arith) (List·Memᴰ·cases-cons m) in
         wins (λ y. low .first some .1 (sym same ∙ y))
         (⊎-elim (λ (y : lower (r .number) (lowestNumber l) ≡ r .number). record { row = r; among = List·Memᴰ·head refl; holds = e; number = sym (same ∙ y); least = above })
         (λ (y : lower (r .number) (lowestNumber l) ≡ lowestNumber l).

@@ -16,9 +16,9 @@ use Rattle.volume_tree.specs.Laws.Search.{no-children}
 use Rattle.volume_tree.specs.Laws.Change.{directory-used, well-formed-sound}
 use Rattle.session.specs.Call.{Geometry, Call, removeFile, removeDirectory, refusal}
 use Rattle.session.specs.Refusal.{row}
-use Rattle.session.specs.Model.{Model, programRows}
+use Rattle.session.specs.Model.{Model, programRows, toldOf}
 use Rattle.session.specs.Issue.{removes, issues}
-use Rattle.session.specs.Edit.{roomRows, removeRows, removeOf, ofFound}
+use Rattle.session.specs.Edit.{roomRows, changed, removeRows, ofFound}
 use Rattle.session.specs.Step.{answerOf}
 use Rattle.session.specs.Removal.{Leads, Removable}
 use Rattle.session.specs.Code.Table.{firstNumber}
@@ -70,14 +70,13 @@ eleven false false false false false false false false false false z = absurd (o
 module _ (g : Geometry) (x : Model) (p d : ℕ) (n : List ℕ) (o : ℕ) (l : Leads x p d n o) where
   -- the first number of a remove's table is the answer
   refused-by : (takes : Entry → Bool) (c : Call) (k : ℕ) → firstNumber (programRows (x .log) p ++ (removeRows takes (x .view) d n ++ roomRows g c x)) ≡ k → (k ≡ 0 → ⊥)
-      → removeOf g c takes p d n x ≡ refusal k c
-  unfolding removeOf
+      → changed g c p (removeRows takes (x .view) d n) x ≡ refusal k c
   refused-by takes c k e z =
       let rows = programRows (x .log) p ++ (removeRows takes (x .view) d n ++ roomRows g c x) in
       unless-refuses c rows _ k (first-lowest 0 rows refl ∙ e) z
 
   -- "Refusal 9 covers the wrong choice and comes before 11", and before 13 and 14
-  wrong-choice : (takes : Entry → Bool) (c : Call) → takes (entryAt (x .view) o) ≡ false → removeOf g c takes p d n x ≡ refusal Returned.wrongKind c
+  wrong-choice : (takes : Entry → Bool) (c : Call) → takes (entryAt (x .view) o) ≡ false → changed g c p (removeRows takes (x .view) d n) x ≡ refusal Returned.wrongKind c
   unfolding firstNumber
   wrong-choice takes c h =
       refused-by takes c 9 (rw (l .program, l .unmarked, l .text, l .number, directory-used (entryAt (x .view) d) (l .parent), l .parent, l .found, h)) (λ z. omega arith)
@@ -101,8 +100,7 @@ module _ (g : Geometry) (x : Model) (p d : ℕ) (n : List ℕ) (o : ℕ) (l : Le
       (rw (l .program, l .unmarked, l .text, l .number, directory-used (entryAt (x .view) d) (l .parent), l .parent, l .found, h, k)) (λ z. omega arith)
 
 module _ (g : Geometry) (x : Model) (s : Sound g x) (p d : ℕ) (n : List ℕ) where
-  kind-removed : (takes : Entry → Bool) (c : Call) → issues (x .view) c ≡ removes (x .view) d n → removeOf g c takes p d n x .returned ≡ 0 → Removable x takes d n
-  unfolding removeOf
+  kind-removed : (takes : Entry → Bool) (c : Call) → issues (toldOf x) c ≡ removes (x .view) d n → changed g c p (removeRows takes (x .view) d n) x .returned ≡ 0 → Removable x takes d n
   kind-removed takes c i e =
       let r = change-passed g c p (removeRows takes (x .view) d n) x refl e .1 in
       let f = remove-accepted g x s takes p d n c i e in
@@ -126,7 +124,7 @@ module _ (g : Geometry) (x : Model) (s : Sound g x) (p d : ℕ) (n : List ℕ) w
 
   -- so remove file never says "not empty": in a well-formed volume a file has no children
   pub file-never-full : answerOf g (removeFile p d n) x .returned ≡ Returned.notEmpty → ⊥
-  unfolding answerOf removeOf
+  unfolding answerOf
   file-never-full e =
       let rows = programRows (x .log) p ++ (removeRows isFile (x .view) d n ++ roomRows g (removeFile p d n) x) in
       let first : firstNumber rows ≡ 11 = sym (first-lowest 0 rows refl) ∙ unless-number (removeFile p d n) rows _ 11 refl (λ z. omega arith) e in

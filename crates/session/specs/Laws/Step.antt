@@ -15,9 +15,10 @@ use Rattle.log.specs.Laws.Slot.{empty-good}
 use Rattle.log.specs.Stored.{encodeLog}
 use Rattle.log.specs.Laws.Stored as LogLaws
 use Rattle.session.specs.Call.{Geometry, Buffers, Call, inRange, serverFits, lengthsFit}
-use Rattle.session.specs.Model.{Model}
+use Rattle.session.specs.Model.{Model, mountedModel, agreeing}
 use Rattle.session.specs.Step.{Result, Stores, answerOf, leavesOf, encodeModel, joinModel, decodeModel, onModel, step, mount}
 use Rattle.session.specs.Laws.Possible.{Sound}
+use Rattle.session.specs.Laws.Agree.{mounted-agrees}
 use Rattle.session.specs.Laws.Edit.{objects-few, blocks-few}
 use Rattle.session.specs.Laws.Call.{call-sound}
 
@@ -28,14 +29,23 @@ pub record Holds (g : Geometry) (s : Buffers) (x : Model) : Type 0 where
   pub stored : encodeModel g x ≡ s
   pub read : decodeModel g s ≡ some x
 
--- each of the three is read for itself
-join-inv : (s v : Option Volume) (l : Option Log) (x : Model) → joinModel s v l ≡ some x → (s ≡ some (x .server)) × (v ≡ some (x .view)) × (l ≡ some (x .log))
+-- each of the three is read for itself, and together they agree
+join-inv : (s v : Option Volume) (l : Option Log) (x : Model) → joinModel s v l ≡ some x
+    → (s ≡ some (x .server)) × (v ≡ some (x .view)) × (l ≡ some (x .log)) × (agreeing x ≡ true)
 join-inv none v l x e = let z : _≡_ {A = ℕ} 0 1 = cc in absurd (omega arith)
 join-inv (some s) none l x e = let z : _≡_ {A = ℕ} 0 1 = cc in absurd (omega arith)
 join-inv (some s) (some v) none x e = let z : _≡_ {A = ℕ} 0 1 = cc in absurd (omega arith)
-join-inv (some s) (some v) (some l) x e =
-    let m : _≡_ {A = Model} (record { server = s; view = v; log = l }) x = cc in
-    (ap (λ (y : Model). some (y .server)) m, ap (λ (y : Model). some (y .view)) m, ap (λ (y : Model). some (y .log)) m)
+join-inv (some s) (some v) (some l) x e = go (agreeing all) refl e
+  where
+    all : Model
+    all = record { server = s; view = v; log = l }
+
+    go : (t : Bool) → agreeing all ≡ t → cond t (some all) none ≡ some x
+        → (some s ≡ some (x .server)) × (some v ≡ some (x .view)) × (some l ≡ some (x .log)) × (agreeing x ≡ true)
+    go true a f =
+        let m : all ≡ x = cc in
+        (ap (λ (y : Model). some (y .server)) m, ap (λ (y : Model). some (y .view)) m, ap (λ (y : Model). some (y .log)) m, subst (λ (y : Model). agreeing y ≡ true) m a)
+    go false a f = let z : _≡_ {A = ℕ} 0 1 = cc in absurd (omega arith)
 
 -- a sound model is stored in buffers of the right lengths, and read from them again
 pub model-stored : (g : Geometry) (x : Model) → Sound g x → Holds g (encodeModel g x) x
@@ -55,7 +65,7 @@ model-stored g x s =
             eq-eqb _ _ (LogLaws.length-log (g .objects) (g .blocks) (g .capacity) (x .log) (s .log)),
           );
       stored = refl;
-      read = rw (ds, dv, dl);
+      read = rw (ds, dv, dl, s .agree);
     }
 
 -- what buffers store is sound, and they are its bytes
@@ -67,7 +77,7 @@ model-read g s x h =
     let ev = VolumeLaws.encode-decode (g .objects) (g .blocks) (s .view) (x .view) (j .1) in
     let el = LogLaws.encode-decode (g .objects) (g .blocks) (g .capacity) (s .log) (x .log) (j .2) in
     record {
-      sound = record { range = h .range; server = es .0; view = ev .0; log = el .0 };
+      sound = record { range = h .range; server = es .0; view = ev .0; log = el .0; agree = j .3 };
       fit = h .lengths;
       stored = λ i. record { server = es .1 i; view = ev .1 i; log = el .1 i };
       read = h .read;
@@ -90,9 +100,6 @@ step-holds g c s x h =
     }
 
 -- an accepted mount leaves buffers that store the volume of the server's bytes twice and an empty log
-abbrev pub mountedModel : Volume → Model
-mountedModel v = record { server = v; view = v; log = emptyLog }
-
 pub mount-holds : (g : Geometry) (s : Buffers) → mount g s .gives .returned ≡ 0 → (v : Volume) × (decodeVolume (g .objects) (g .blocks) (mount g s .leaves .server) ≡ some v) × Holds g (mount g s .leaves) (mountedModel v)
 unfolding mount
 mount-holds g s e = go (inRange g) (lengthsFit g s) (decodeVolume (g .objects) (g .blocks) (s .server)) refl refl refl e
@@ -113,7 +120,7 @@ mount-holds g s e = go (inRange g) (lengthsFit g s) (decodeVolume (g .objects) (
         × Holds g (cond (r && f) (cond (isSome d) after (refusal 2)) (refusal 1) .leaves) (mountedModel v)
     go true true (some v) hr hf hd k =
         let d = VolumeLaws.encode-decode (g .objects) (g .blocks) (s .server) v hd in
-        let sound : Sound g (mountedModel v) = record { range = hr; server = d .0; view = d .0; log = empty-good (g .objects) (g .blocks) (g .capacity) } in
+        let sound : Sound g (mountedModel v) = record { range = hr; server = d .0; view = d .0; log = empty-good (g .objects) (g .blocks) (g .capacity); agree = mounted-agrees v } in
         (v, hd, subst (λ (y : Buffers). Holds g y (mountedModel v)) (λ i. record { server = d .1 i; view = d .1 i; log = encodeLog (g .capacity) emptyLog }) (model-stored g (mountedModel v) sound))
     go true true none hr hf hd k = let z : _≡_ {A = ℕ} 0 1 = cc in absurd (omega arith)
     go true false d hr hf hd k = let z : _≡_ {A = ℕ} 0 1 = cc in absurd (omega arith)

@@ -1,50 +1,56 @@
--- In a table whose numbers rise the first row that holds has the lowest number. Assumes nothing.
-use Prim.Native.Nat.{ℕ, min, _<_}
+-- In a table whose numbers rise in rank the first row that holds has the number of the lowest rank. Assumes nothing.
+use Prim.Native.Nat.{ℕ, _<_}
 use native.Mathlib.Omega.{arith}
 use mathlib.Core.Path.{_≡_, refl, sym, ap, _∙_}
 use mathlib.Core.List.{List, [], _∷_, _++_}
 use mathlib.Core.Logic.{_⊎_, inl, inr}
 use mathlib.Core.Bool.{Bool, true, false, cond, and-eq-true-iff}
-use lib.Dec.{ltb, eqb}
-use borrow.Author.Tests.{ltb-true, eqb-true, eqb-false}
+use lib.Dec.{leb, ltb, eqb}
+use borrow.Author.Tests.{ltb-true, leb-false, eqb-true, eqb-false}
+use Rattle.returned.specs.Returned.{rankOf}
 use Rattle.session.specs.Call.{Call, Answer, refusal}
 use Rattle.session.specs.Refusal.{Row, lower, lowestNumber}
 use Rattle.session.specs.Model.{unless}
 use Rattle.session.specs.Code.Table.{firstNumber, rising}
 
+-- a number of some rank above another is not 0, which has the lowest
+ranked : (k n : ℕ) → k < rankOf n → n ≡ 0 → ⊥
+ranked k n low z = let e : rankOf n ≡ 0 = ap rankOf z in omega arith
+
 -- what a table whose numbers rise gives is none, or above where they start
-above : (k : ℕ) (l : List Row) → rising k l ≡ true → (firstNumber l ≡ 0) ⊎ (k < firstNumber l)
+above : (k : ℕ) (l : List Row) → rising k l ≡ true → (firstNumber l ≡ 0) ⊎ (k < rankOf (firstNumber l))
 unfolding firstNumber
 above k [] h = inl refl
 above k (r ∷ l) h =
-    let both = and-eq-true-iff (ltb k (r .number)) (rising (r .number) l) .0 h in
-    let low = ltb-true k (r .number) (both .0) in
-    go (r .holds) low (above (r .number) l (both .1))
+    let both = and-eq-true-iff (ltb k (rankOf (r .number))) (rising (rankOf (r .number)) l) .0 h in
+    let low = ltb-true k (rankOf (r .number)) (both .0) in
+    go (r .holds) low (above (rankOf (r .number)) l (both .1))
   where
-    go : (t : Bool) → k < r .number → (firstNumber l ≡ 0) ⊎ (r .number < firstNumber l)
-        → (cond t (r .number) (firstNumber l) ≡ 0) ⊎ (k < cond t (r .number) (firstNumber l))
+    go : (t : Bool) → k < rankOf (r .number) → (firstNumber l ≡ 0) ⊎ (rankOf (r .number) < rankOf (firstNumber l))
+        → (cond t (r .number) (firstNumber l) ≡ 0) ⊎ (k < rankOf (cond t (r .number) (firstNumber l)))
     go true low rest = inr low
     go false low (inl z) = inl z
     go false low (inr z) = inr (omega arith)
 
-lower-first : (k n f : ℕ) → k < n → (f ≡ 0) ⊎ (n < f) → lower n f ≡ n
-lower-first k n f low or = go (eqb n 0) (eqb f 0) refl refl or
+lower-first : (k n f : ℕ) → k < rankOf n → (f ≡ 0) ⊎ (rankOf n < rankOf f) → lower n f ≡ n
+lower-first k n f low or = go (eqb n 0) (eqb f 0) (leb (rankOf n) (rankOf f)) refl refl refl or
   where
-    go : (s t : Bool) → eqb n 0 ≡ s → eqb f 0 ≡ t → (f ≡ 0) ⊎ (n < f) → cond s f (cond t n (min n f)) ≡ n
-    go true t e d o = let z = eqb-true n 0 e in absurd (omega arith)
-    go false true e d o = refl
-    go false false e d (inl z) = absurd (eqb-false f 0 d z)
-    go false false e d (inr z) = omega arith
+    go : (s t u : Bool) → eqb n 0 ≡ s → eqb f 0 ≡ t → leb (rankOf n) (rankOf f) ≡ u → (f ≡ 0) ⊎ (rankOf n < rankOf f) → cond s f (cond t n (cond u n f)) ≡ n
+    go true t u e d b o = absurd (ranked k n low (eqb-true n 0 e))
+    go false true u e d b o = refl
+    go false false true e d b o = refl
+    go false false false e d b (inl z) = absurd (eqb-false f 0 d z)
+    go false false false e d b (inr z) = let y = leb-false (rankOf n) (rankOf f) b in absurd (omega arith)
 
 -- The first row that holds wins.
 pub first-lowest : (k : ℕ) (l : List Row) → rising k l ≡ true → lowestNumber l ≡ firstNumber l
 unfolding lowestNumber firstNumber
 first-lowest k [] h = refl
 first-lowest k (r ∷ l) h =
-    let both = and-eq-true-iff (ltb k (r .number)) (rising (r .number) l) .0 h in
-    let low = ltb-true k (r .number) (both .0) in
-    let rest = first-lowest (r .number) l (both .1) in
-    go (r .holds) (ap (lower (r .number)) rest ∙ lower-first k (r .number) (firstNumber l) low (above (r .number) l (both .1))) rest
+    let both = and-eq-true-iff (ltb k (rankOf (r .number))) (rising (rankOf (r .number)) l) .0 h in
+    let low = ltb-true k (rankOf (r .number)) (both .0) in
+    let rest = first-lowest (rankOf (r .number)) l (both .1) in
+    go (r .holds) (ap (lower (r .number)) rest ∙ lower-first k (r .number) (firstNumber l) low (above (rankOf (r .number)) l (both .1))) rest
   where
     go : (t : Bool) → lower (r .number) (lowestNumber l) ≡ r .number → lowestNumber l ≡ firstNumber l
         → cond t (lower (r .number) (lowestNumber l)) (lowestNumber l) ≡ cond t (r .number) (firstNumber l)
@@ -65,13 +71,13 @@ pub first-right : (k : ℕ) (a b : List Row) → rising k a ≡ true → firstNu
 unfolding firstNumber
 first-right k [] b h e = refl
 first-right k (r ∷ a) b h e =
-    let both = and-eq-true-iff (ltb k (r .number)) (rising (r .number) a) .0 h in
-    let low = ltb-true k (r .number) (both .0) in
-    go (r .holds) low (first-right (r .number) a b (both .1)) e
+    let both = and-eq-true-iff (ltb k (rankOf (r .number))) (rising (rankOf (r .number)) a) .0 h in
+    let low = ltb-true k (rankOf (r .number)) (both .0) in
+    go (r .holds) low (first-right (rankOf (r .number)) a b (both .1)) e
   where
-    go : (t : Bool) → k < r .number → (firstNumber a ≡ 0 → firstNumber (a ++ b) ≡ firstNumber b) → cond t (r .number) (firstNumber a) ≡ 0
+    go : (t : Bool) → k < rankOf (r .number) → (firstNumber a ≡ 0 → firstNumber (a ++ b) ≡ firstNumber b) → cond t (r .number) (firstNumber a) ≡ 0
         → cond t (r .number) (firstNumber (a ++ b)) ≡ firstNumber b
-    go true low f z = absurd (omega arith)
+    go true low f z = absurd (ranked k (r .number) low z)
     go false low f z = f z
 
 -- What a call answers that its table may refuse.

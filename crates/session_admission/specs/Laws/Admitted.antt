@@ -10,16 +10,18 @@ use lib.Dec.{leb, eqb}
 use Rattle.buffer.specs.Decoded.{isSome}
 use Rattle.returned.specs.Returned
 use Rattle.volume_tree.specs.Volume.{Volume}
-use Rattle.volume_tree.specs.Stored.{volumeBytes, lent, formed, decodeVolume}
+use Rattle.volume_entry.specs.Stored.{sameBytes}
+use Rattle.volume_tree.specs.Form.{wellFormed}
+use Rattle.volume_tree.specs.Stored.{volumeBytes, lent, formed, encodeVolume, readVolume, decodeVolume}
 use Rattle.volume_tree.specs.Code.Lent.{Formed}
 use Rattle.volume_tree.specs.Laws.Lent as LentLaws
-use Rattle.log.specs.Slot.{Log}
-use Rattle.log.specs.Stored.{logBytes, lentLog, formedLog, decodeLog, readLog}
+use Rattle.log.specs.Slot.{Log, wellFormedLog}
+use Rattle.log.specs.Stored.{logBytes, lentLog, formedLog, encodeLog, decodeLog, readLog}
 use Rattle.log.specs.Code.Slots.{Logged}
 use Rattle.log.specs.Laws.Stored as StoredLaws
 use Rattle.log_form.specs.Laws.Form as FormLaws
 use Rattle.session.specs.Call.{Geometry, Buffers, Call, geometry, buffers, inRange, serverFits, lengthsFit}
-use Rattle.session.specs.Model.{Model}
+use Rattle.session.specs.Model.{Model, agreeing}
 use Rattle.session.specs.Step.{joinModel, encodeModel, decodeModel, turnedDown, onModel, step}
 use Rattle.session.specs.Laws.Step.{Holds, model-stored, model-read}
 use Rattle.session_admission.specs.Code.Admitted.{admission, modelIn, Admitted}
@@ -43,20 +45,29 @@ module _ (n b m : ℕ) (s v l : List ℕ) where
       regrouped (leb 2 n && leb n 256) (leb 1 b && leb b 64) (leb 1 m && leb m 1024) (eqb (length s) (volumeBytes n b)) (eqb (length v) (volumeBytes n b))
       (eqb (length l) (logBytes m))
 
-  joined : (a c : Option Volume) (d : Option Log) → isSome a && (isSome c && isSome d) ≡ isSome (joinModel a c d)
-  joined none c d = refl
-  joined (some x) none d = refl
-  joined (some x) (some y) none = refl
-  joined (some x) (some y) (some z) = refl
+  -- whether there is something where a test passes is the test
+  there : (x : Model) (t : Bool) → t ≡ isSome {A = Model} (cond t (some x) none)
+  there x true = refl
+  there x false = refl
 
-  -- Where the lengths are right, the three buffers store a model exactly if each is of the right form.
+  read-if : (x y : Volume) (z : Log) (a c d : Bool)
+      → isSome (cond a (some x) none) && (isSome (cond c (some y) none) && (isSome (cond d (some z) none) && agreeing (record { server = x; view = y; log = z })))
+      ≡ isSome (joinModel (cond a (some x) none) (cond c (some y) none) (cond d (some z) none))
+  read-if x y z false c d = refl
+  read-if x y z true false d = refl
+  read-if x y z true true false = refl
+  read-if x y z true true true = there (record { server = x; view = y; log = z }) (agreeing (record { server = x; view = y; log = z }))
+
+  -- Where the lengths are right, the three buffers store a model exactly if each is of the right form and they agree.
   pub form-model : inRange (geometry n b m) && lengthsFit (geometry n b m) (buffers s v l) ≡ true
-      → formed n b s && (formed n b v && formedLog n b m l) ≡ isSome (decodeModel (geometry n b m) (buffers s v l))
-  unfolding formed formedLog decodeModel
+      → formed n b s && (formed n b v && (formedLog n b m l && agreeing (modelIn n b m s v l))) ≡ isSome (decodeModel (geometry n b m) (buffers s v l))
+  unfolding formed formedLog decodeModel decodeVolume decodeLog
   form-model h =
       let all = and-eq-true-iff (lent n b s) (lent n b v && lentLog n b m l) .0 (lengths-lent ∙ h) in
       let two = and-eq-true-iff (lent n b v) (lentLog n b m l) .0 (all .1) in
-      (rw (all .0, two .0, two .1)) ∙ joined (decodeVolume n b s) (decodeVolume n b v) (decodeLog n b m l)
+      (rw (all .0, two .0, two .1)) ∙ read-if (readVolume n b s) (readVolume n b v) (readLog m l) (wellFormed n b (readVolume n b s) && sameBytes (encodeVolume b (readVolume n b s)) s)
+      (wellFormed n b (readVolume n b v) && sameBytes (encodeVolume b (readVolume n b v)) v)
+      (wellFormedLog n b m (readLog m l) && sameBytes (encodeLog m (readLog m l)) l)
 
 -- A call that is refused for what it is lent is refused by `step` alike.
 pub not-admitted : (g : Geometry) (c : Call) (s : Buffers) (k : ℕ) → admission g s ≡ k → (k ≡ 0 → ⊥) → step g c s ≡ turnedDown k c s
@@ -84,12 +95,14 @@ admitted n b m s v l e = go (inRange g && lengthsFit g t) (isSome (decodeModel g
     go false d hf hd z = absurd (omega arith)
     go true false hf hd z = absurd (omega arith)
     go true true hf hd z =
-        let all = and-eq-true-iff (formed n b s) (formed n b v && formedLog n b m l) .0 (form-model n b m s v l hf ∙ hd) in
-        let two = and-eq-true-iff (formed n b v) (formedLog n b m l) .0 (all .1) in
+        let x = modelIn n b m s v l in
+        let all = and-eq-true-iff (formed n b s) (formed n b v && (formedLog n b m l && agreeing x)) .0 (form-model n b m s v l hf ∙ hd) in
+        let two = and-eq-true-iff (formed n b v) (formedLog n b m l && agreeing x) .0 (all .1) in
+        let three = and-eq-true-iff (formedLog n b m l) (agreeing x) .0 (two .1) in
         let fit = and-eq-true-iff (inRange g) (lengthsFit g t) .0 hf in
         let fs = LentLaws.formed-inv n b s (all .0) in
         let fv = LentLaws.formed-inv n b v (two .0) in
-        let fl = FormLaws.formed-logged n b m l (two .1) in
+        let fl = FormLaws.formed-logged n b m l (three .0) in
         let ds = LentLaws.formed-decoded n b s fs in
         let dv = LentLaws.formed-decoded n b v fv in
         let dl : decodeLog n b m l ≡ some (readLog m l) = ap (decodeLog n b m) (sym (fl .stored)) ∙ StoredLaws.decode-encode n b m (readLog m l) (fl .form) in
@@ -97,12 +110,13 @@ admitted n b m s v l e = go (inRange g && lengthsFit g t) (isSome (decodeModel g
           server = fs;
           view = fv;
           log = fl;
-          holds = model-read g t (modelIn n b m s v l) (record { range = fit .0; lengths = fit .1; read = rw (ds, dv, dl) });
+          holds = model-read g t x (record { range = fit .0; lengths = fit .1; read = rw (ds, dv, dl, three .1) });
         }
 
--- Three buffers of the right form, for a geometry in range, are as if they had passed.
-pub formed-admitted : (n b m : ℕ) (s v l : List ℕ) → inRange (geometry n b m) ≡ true → Formed n b s → Formed n b v → Logged n b m l → Admitted n b m s v l
-formed-admitted n b m s v l range fs fv fl =
+-- Three buffers of the right form that agree, for a geometry in range, are as if they had passed.
+pub formed-admitted : (n b m : ℕ) (s v l : List ℕ) → inRange (geometry n b m) ≡ true → Formed n b s → Formed n b v → Logged n b m l
+    → agreeing (modelIn n b m s v l) ≡ true → Admitted n b m s v l
+formed-admitted n b m s v l range fs fv fl agree =
     let x = modelIn n b m s v l in
     let stored : encodeModel (geometry n b m) x ≡ buffers s v l = λ i. record { server = fs .stored i; view = fv .stored i; log = fl .stored i } in
     record {
@@ -111,7 +125,7 @@ formed-admitted n b m s v l range fs fv fl =
       log = fl;
       holds =
           subst (λ (y : Buffers). Holds (geometry n b m) y x) stored
-          (model-stored (geometry n b m) x (record { range = range; server = fs .form; view = fv .form; log = fl .form }));
+          (model-stored (geometry n b m) x (record { range = range; server = fs .form; view = fv .form; log = fl .form; agree = agree }));
     }
 
 -- Three tests, one after the other: what is known where each of them is left.
@@ -123,6 +137,13 @@ at-second x y z e f = rw (e, f)
 
 pub at-first : (x y z : Bool) → x ≡ false → false ≡ x && (y && z)
 at-first x y z e = rw e
+
+-- Two tests.
+pub last-of-two : (x y : Bool) → x ≡ true → y ≡ x && y
+last-of-two x y e = rw e
+
+pub first-of-two : (x y : Bool) → x ≡ false → false ≡ x && y
+first-of-two x y e = rw e
 
 module _ (g : Geometry) (s : Buffers) where
   -- What was tested decides the number.

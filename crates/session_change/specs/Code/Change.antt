@@ -5,18 +5,18 @@ use mathlib.Core.List.{List, [], _∷_, _++_}
 use mathlib.Core.Bool.{true, not}
 use lib.ListN.{length}
 use lib.Dec.{eqb}
+use Rattle.returned.specs.Returned
+use Rattle.returned.specs.Returned.{rankOf}
 use Rattle.record.specs.Operation.{Operation}
-use Rattle.volume_tree.specs.Stored.{readVolume}
 use Rattle.log.specs.Slot.{Log}
 use Rattle.session.specs.Call.{Geometry, Call, geometry, answer, refusal}
 use Rattle.session.specs.Refusal.{Row, row}
-use Rattle.session.specs.Model.{programRows, roomFor}
+use Rattle.session.specs.Model.{programRows, roomFor, toldOf}
 use Rattle.session.specs.Issue.{issues}
 use Rattle.session.specs.Edit.{roomRows, changed}
 use Rattle.session.specs.Effect.{issuing, acceptedEffects, refusedEffects}
 use Rattle.session.specs.Step.{answerOf}
 use Rattle.session.specs.Code.Table.{firstNumber, rising}
-use Rattle.session.specs.Laws.Outcome.{waitingIn}
 use Rattle.session.specs.Laws.Issuing.{Issuing}
 use Rattle.session_admission.specs.Code.Admitted.{modelIn, Admitted}
 
@@ -38,12 +38,12 @@ pub record Change (n b m p : ℕ) (s v l : List ℕ) (c : Call) (own count : ℕ
   pub held : Admitted n b m s v l
   pub rows : List Row
   pub is : answerOf (geometry n b m) c (modelIn n b m s v l) ≡ changed (geometry n b m) c p rows (modelIn n b m s v l)
-  pub rise : rising 4 (rows ++ roomRows (geometry n b m) c (modelIn n b m s v l)) ≡ true
+  pub rise : rising (rankOf Returned.marked) (rows ++ roomRows (geometry n b m) c (modelIn n b m s v l)) ≡ true
   pub number : own ≡ firstNumber rows
-  pub many : own ≡ 0 → length (issues (readVolume n b v) c) ≡ count
+  pub many : own ≡ 0 → length (issues (toldOf (modelIn n b m s v l)) c) ≡ count
   pub plain : Plain c
-  pub quiet : (k : ℕ) → refusedEffects c (refusal k c) (waitingIn (modelIn n b m s v l)) ≡ []
-  pub effects : acceptedEffects c (readVolume n b v) (waitingIn (modelIn n b m s v l)) ≡ issuing p (issues (readVolume n b v) c)
+  pub quiet : (k : ℕ) → refusedEffects c (refusal k c) (toldOf (modelIn n b m s v l)) ≡ []
+  pub effects : acceptedEffects c (toldOf (modelIn n b m s v l)) ≡ issuing p (issues (toldOf (modelIn n b m s v l)) c)
 
 -- operations of a program that may be issued one after the other on a view and a log, whatever server volume is lent with them
 pub record MayIssue (n b m p : ℕ) (v l : List ℕ) (os : List Operation) : Type 0 where

@@ -6,6 +6,8 @@ use mathlib.Core.List.{List, [], _∷_, _++_}
 use mathlib.Core.Bool.{Bool, true, false, not, cond, and-eq-true-iff}
 use lib.Dec.{ltb, eqb}
 use borrow.Author.Tests.{eqb-true, eqb-false, eq-eqb, ne-eqb}
+use Rattle.returned.specs.Returned
+use Rattle.returned.specs.Returned.{rankOf}
 use Rattle.returned.specs.declared.Value.{Value}
 use Rattle.returned.specs.Shapes.{value}
 use Rattle.log.specs.Programs.{holds}
@@ -27,8 +29,8 @@ use Rattle.session_change.specs.Code.Change.{ownRow, changeNumber, Plain
 pub rising-left : (k : ℕ) (a b : List Row) → rising k (a ++ b) ≡ true → rising k a ≡ true
 rising-left k [] b h = refl
 rising-left k (r ∷ a) b h =
-    let both = and-eq-true-iff (ltb k (r .number)) (rising (r .number) (a ++ b)) .0 h in
-    rw (both .0) (rising-left (r .number) a b (both .1))
+    let both = and-eq-true-iff (ltb k (rankOf (r .number))) (rising (rankOf (r .number)) (a ++ b)) .0 h in
+    rw (both .0) (rising-left (rankOf (r .number)) a b (both .1))
 
 -- A chain of tests over two tables: the number of the first, where it gives one, and else that of the second.
 pub stops-first : (a b : List Row) (k : ℕ) → k ≡ firstNumber a → (k ≡ 0 → ⊥) → k ≡ firstNumber (a ++ b)
@@ -43,13 +45,13 @@ unfolding firstNumber
 over-program l p a b e = rw e
 
 -- A table's number stands for the table.
-own-first : (k : ℕ) (rows rest more : List Row) → rising 4 rows ≡ true → k ≡ firstNumber rows → (k ≡ 0 → firstNumber rest ≡ firstNumber more)
+own-first : (k : ℕ) (rows rest more : List Row) → rising (rankOf Returned.marked) rows ≡ true → k ≡ firstNumber rows → (k ≡ 0 → firstNumber rest ≡ firstNumber more)
     → firstNumber (ownRow k ∷ rest) ≡ firstNumber (rows ++ more)
 unfolding firstNumber
 own-first k rows rest more h e f = go (eqb k 0) refl
   where
     go : (t : Bool) → eqb k 0 ≡ t → cond (not t) k (firstNumber rest) ≡ firstNumber (rows ++ more)
-    go true z = let y = eqb-true k 0 z in goes-on 4 rows more h k (firstNumber rest) e y (f y)
+    go true z = let y = eqb-true k 0 z in goes-on (rankOf Returned.marked) rows more h k (firstNumber rest) e y (f y)
     go false z = stops-first rows more k e (eqb-false k 0 z)
 
 -- The number of a change, by which of the three gives it.
@@ -94,7 +96,7 @@ module _ {n b m p : ℕ} {s v l : List ℕ} {c : Call} {own count : ℕ} (ch : C
       let g = geometry n b m in
       let x = modelIn n b m s v l in
       over-program (readLog m l) p (ownRow own ∷ roomFor g (readLog m l) count) (ch .rows ++ roomRows g c x)
-      (own-first own (ch .rows) (roomFor g (readLog m l) count) (roomRows g c x) (rising-left 4 (ch .rows) (roomRows g c x) (ch .rise)) (ch .number)
+      (own-first own (ch .rows) (roomFor g (readLog m l) count) (roomRows g c x) (rising-left (rankOf Returned.marked) (ch .rows) (roomRows g c x) (ch .rise)) (ch .number)
       (λ z. ap (λ (k : ℕ). firstNumber (roomFor g (readLog m l) k)) (sym (ch .many z))))
 
   -- Refused: nothing changes.

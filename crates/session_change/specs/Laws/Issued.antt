@@ -4,6 +4,7 @@ use Prim.Native.Nat.{ℕ}
 use native.Mathlib.Omega.{arith}
 use mathlib.Core.Path.{_≡_, refl, sym, ap, _∙_, subst}
 use mathlib.Core.List.{List, [], _∷_, _++_}
+use mathlib.Core.Bool.{true}
 use Rattle.returned.specs.declared.Value.{Value}
 use Rattle.returned.specs.Shapes.{value}
 use Rattle.record.specs.Operation.{Operation, Record, recordOf, operands}
@@ -13,11 +14,11 @@ use Rattle.log.specs.Laws.Slot.{formed-inv}
 use Rattle.session.specs.Call.{Call, geometry, buffers, answer}
 use Rattle.session.specs.Issue.{issues}
 use Rattle.session.specs.Edit.{roomRows}
-use Rattle.session.specs.Model.{Model, withView, withLog, programRows}
+use Rattle.session.specs.Model.{Model, agreeing, withView, withLog, programRows, toldOf}
 use Rattle.session.specs.Effect.{Effect, note, issue, perform, performAll, issuing}
 use Rattle.session.specs.Step.{given, encodeModel, step}
 use Rattle.session.specs.Laws.Issue.{record-good}
-use Rattle.session.specs.Laws.Issuing.{Issuing, issuing-rest}
+use Rattle.session.specs.Laws.Issuing.{Issuing, issuing-rest, issued-sound}
 use Rattle.log_draft.specs.Code.Issued.{Issuable, Issued, Room, issuedAll, appliedAll, AllIssued}
 use Rattle.log_draft.specs.Laws.Issued.{issued-logged, issued-read, issued-formed, issued-view, one-issued, more-issued}
 use Rattle.session_admission.specs.Code.Admitted.{modelIn, Admitted}
@@ -52,12 +53,6 @@ module _ {n b m p : ℕ} {s v l : List ℕ} (h : Admitted n b m s v l) {o : Oper
     able : Issuable n b (readVolume n b v) first
     able = issuing-able first refl
 
-    pub issued-admitted : Admitted n b m s view log
-    issued-admitted =
-        formed-admitted n b m s view log (h .holds .sound .range) (h .server)
-        (issued-formed n b m l v (h .log) (h .view) first able issuing-room refl x log view u)
-        (issued-logged n b m l v (h .log) (h .view) first able issuing-room refl x log view u)
-
     issued-model : perform (issue p o) (perform (note p (operands o)) (modelIn n b m s v l)) ≡ modelIn n b m s view log
     unfolding perform
     issued-model = λ j.
@@ -66,6 +61,13 @@ module _ {n b m p : ℕ} {s v l : List ℕ} (h : Admitted n b m s v l) {o : Oper
           view = sym (issued-view n b m l v (h .log) (h .view) first able issuing-room refl x log view u) j;
           log = sym (issued-read n b m l v (h .log) (h .view) first able issuing-room refl x log view u) j;
         }
+
+    pub issued-admitted : Admitted n b m s view log
+    issued-admitted =
+        formed-admitted n b m s view log (h .holds .sound .range) (h .server)
+        (issued-formed n b m l v (h .log) (h .view) first able issuing-room refl x log view u)
+        (issued-logged n b m l v (h .log) (h .view) first able issuing-room refl x log view u)
+        (subst (λ (y : Model). agreeing y ≡ true) issued-model (issued-sound (geometry n b m) p o os (modelIn n b m s v l) (h .holds .sound) i .agree))
 
     pub issued-rest : Issuing (geometry n b m) (modelIn n b m s view log) p os
     issued-rest = subst (λ (y : Model). Issuing (geometry n b m) y p os) issued-model (issuing-rest (geometry n b m) p o os (modelIn n b m s v l) i)
@@ -82,7 +84,7 @@ performed p (o ∷ os) x = performed p os (perform (issue p o) (perform (note p 
 
 -- The accepted case of every change: the buffers store what issuing its operations leaves.
 pub changed-outcome : {n b m p : ℕ} {s v l : List ℕ} {c : Call} {own count : ℕ} (ch : Change n b m p s v l c own count) (k : ℕ)
-    → k ≡ changeNumber (geometry n b m) (readLog m l) p own count → k ≡ 0 → (os : List Operation) → issues (readVolume n b v) c ≡ os
+    → k ≡ changeNumber (geometry n b m) (readLog m l) p own count → k ≡ 0 → (os : List Operation) → issues (toldOf (modelIn n b m s v l)) c ≡ os
     → (x : ℕ) (log view : List ℕ) → AllIssued b m x log view (readVolume n b v) (readLog m l) p os → (r : Value) → r ≡ value 0 x
     → given (r .returned) (r .value ∷ []) [] (buffers s view log) ≡ step (geometry n b m) c (buffers s v l)
 changed-outcome {n} {b} {m} {p} {s} {v} {l} {c} ch k e z os all x log view u r w =
@@ -100,7 +102,7 @@ changed-outcome {n} {b} {m} {p} {s} {v} {l} {c} ch k e z os all x log view u r w
 -- Where it issues one operation, what issuing that one leaves.
 pub issued-outcome : {n b m p : ℕ} {s v l : List ℕ} {c : Call} {own count : ℕ} (ch : Change n b m p s v l c own count) (k : ℕ)
     → k ≡ changeNumber (geometry n b m) (readLog m l) p own count → k ≡ 0
-    → (o : Operation) → issues (readVolume n b v) c ≡ o ∷ [] → (d : Record) → d ≡ recordOf (readLog m l .next) p o
+    → (o : Operation) → issues (toldOf (modelIn n b m s v l)) c ≡ o ∷ [] → (d : Record) → d ≡ recordOf (readLog m l .next) p o
     → (x : ℕ) (log view : List ℕ) → Issued n b m x log view (readVolume n b v) (readLog m l) d → (r : Value) → r ≡ value 0 x
     → given (r .returned) (r .value ∷ []) [] (buffers s view log) ≡ step (geometry n b m) c (buffers s v l)
 issued-outcome {n} {b} {m} {p} {s} {v} {l} ch k e z o one d q x log view u r w =

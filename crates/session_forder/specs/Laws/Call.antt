@@ -13,7 +13,7 @@ use Rattle.log.specs.Stored.{readLog}
 use Rattle.log_draft.specs.Code.Issued.{Waits, Issued}
 use Rattle.session.specs.Call.{Call, geometry}
 use Rattle.session.specs.Call
-use Rattle.session.specs.Edit.{forderRows, forderOf}
+use Rattle.session.specs.Edit.{forderRows}
 use Rattle.session.specs.Step.{answerOf}
 use Rattle.session.specs.Code.Table.{firstNumber}
 use Rattle.session.specs.Laws.Issuing.{Issuing}
@@ -26,7 +26,7 @@ use Rattle.session_forder.specs.Laws.List.{list-even}
 module _ {n b m : ℕ} {s v l : List ℕ} (h : Admitted n b m s v l) (p : ℕ) where
   module _ (d : List ℕ) (own : ℕ) (number : own ≡ firstNumber (forderRows (readVolume n b v) d)) where
     pub forder-change : Change n b m p s v l (Call.forder p d) own 1
-    unfolding answerOf forderOf
+    unfolding answerOf
     forder-change =
         record {
           held = h;

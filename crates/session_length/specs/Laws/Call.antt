@@ -7,7 +7,7 @@ use Rattle.volume_tree.specs.Stored.{readVolume}
 use Rattle.log.specs.Stored.{readLog}
 use Rattle.session.specs.Call.{Call, geometry}
 use Rattle.session.specs.Call
-use Rattle.session.specs.Edit.{lengthRows, setLengthOf}
+use Rattle.session.specs.Edit.{lengthRows}
 use Rattle.session.specs.Step.{answerOf}
 use Rattle.session.specs.Code.Table.{firstNumber}
 use Rattle.session.specs.Laws.Issuing.{Issuing}
@@ -19,7 +19,7 @@ use Rattle.session_change.specs.Laws.Change.{change-accepted}
 module _ {n b m : ℕ} {s v l : List ℕ} (h : Admitted n b m s v l) (p : ℕ) where
   module _ (o f : ℕ) (own : ℕ) (number : own ≡ firstNumber (lengthRows b (readVolume n b v) o f)) where
     pub length-change : Change n b m p s v l (Call.setLength p o f) own 1
-    unfolding answerOf setLengthOf
+    unfolding answerOf
     length-change =
         record {
           held = h;

@@ -23,7 +23,7 @@ listGives v o own = answer (listNumber (listAnswer v o own)) (listResults (listA
 
 -- It is refused for its program, or answers of the view.
 pub list-asks : {n b m p : ℕ} {s v l : List ℕ} {o : ℕ} {own : List ℕ} → Asks n b m p s v l (Call.list p o own) (listGives (readVolume n b v) o own)
-unfolding answerOf Question.listOf
+unfolding answerOf
 list-asks = record { is = refl; quiet = λ x. refl }
 
 -- The object of an accepted list is below 256.

@@ -35,7 +35,7 @@ lookupGives v path = answer (reachedNumber (lookupAnswer v path)) (reachedResult
 
 -- It is refused for its program, or answers of the view.
 pub lookup-asks : {n b m p : ℕ} {s v l path : List ℕ} → Asks n b m p s v l (Call.lookup p path) (lookupGives (readVolume n b v) path)
-unfolding answerOf Question.lookupOf
+unfolding answerOf
 lookup-asks = record { is = refl; quiet = λ x. refl }
 
 -- the marks with some objects added have these and what they had

@@ -1,9 +1,10 @@
 -- `session_make::make` meets its contract. Assumes nothing.
 use native.Mathlib.Omega.{arith}
 use mathlib.Core.Path.{sym, _∙_}
-use Rattle.volume_tree.specs.Stored.{readVolume}
 use Rattle.log.specs.Stored.{readLog}
+use Rattle.session.specs.Model.{toldOf}
 use Rattle.session.specs.Call.{geometry, buffers}
+use Rattle.session_admission.specs.Code.Admitted.{modelIn}
 use Rattle.session_admission.specs.Laws.Admitted.{admitted}
 use Rattle.session_change.specs.Laws.Change.{lent-refuses, change-refuses, change-accepted}
 use Rattle.session_change.specs.Laws.Issued.{issuing-room, issuing-able, issued-outcome}
@@ -120,7 +121,7 @@ returns-3 c =
     (a .program) (a .object) (a .parent) (a .name .now) in
     issued-outcome ch (k .change-refusal .result) (k .change-refusal .ensures) (at-if2 .if2 .left)
     (makeOperation (a .directory) (a .object) (a .parent) (a .name .now))
-    (make-issues (a .directory) (readVolume (a .n) (a .b) (a .view .now)) (a .program) (a .parent) (a .name .now) (a .object)) _ (r .1) (u .issue-entry .result)
+    (make-issues (a .directory) (toldOf (modelIn (a .n) (a .b) (a .m) (a .server .now) (a .view .now) (a .log .now))) (a .program) (a .parent) (a .name .now) (a .object)) _ (r .1) (u .issue-entry .result)
     (u .issue-entry .last .0) (u .issue-entry .last .1 .0) (u .issue-entry .ensures) (c .of .result) (c .of .ensures)
 
 pub make-spec : {M : Type 1} → statement M

@@ -9,9 +9,10 @@ use Rattle.record.specs.Kind.{mapOfKind}
 use Rattle.volume_tree.specs.Volume.{Volume}
 use Rattle.volume_tree.specs.Stored.{readVolume}
 use Rattle.record_writer.specs.Code.Writer.{entryRecord}
+use Rattle.session.specs.Told.{Told}
 use Rattle.session.specs.Call.{geometry}
 use Rattle.session.specs.Issue.{issues}
-use Rattle.session.specs.Edit.{makeRows, makeOf}
+use Rattle.session.specs.Edit.{makeRows}
 use Rattle.session.specs.Step.{answerOf}
 use Rattle.session.specs.Code.Table.{firstNumber}
 use Rattle.session.specs.Laws.Edit.{create-accepted, make-accepted}
@@ -30,13 +31,13 @@ pub make-plain : (dir : Bool) (p d : ℕ) (name : List ℕ) (o : ℕ) → Plain 
 make-plain true p d name o = λ k. refl
 make-plain false p d name o = λ k. refl
 
-pub make-issues : (dir : Bool) (v : Volume) (p d : ℕ) (name : List ℕ) (o : ℕ) → issues v (makeCall dir p d name o) ≡ makeOperation dir o d name ∷ []
-make-issues true v p d name o = refl
-make-issues false v p d name o = refl
+pub make-issues : (dir : Bool) (t : Told) (p d : ℕ) (name : List ℕ) (o : ℕ) → issues t (makeCall dir p d name o) ≡ makeOperation dir o d name ∷ []
+make-issues true t p d name o = refl
+make-issues false t p d name o = refl
 
 module _ (n b m p : ℕ) (s v l : List ℕ) (h : Admitted n b m s v l) where
   pub make-change : (dir : Bool) (d : ℕ) (name : List ℕ) (o own : ℕ) → own ≡ firstNumber (makeRows (readVolume n b v) d name o) → Change n b m p s v l (makeCall dir p d name o) own 1
-  unfolding answerOf makeOf
+  unfolding answerOf
   make-change true d name o own e =
       record { held = h; rows = makeRows (readVolume n b v) d name o; is = refl; rise = refl; number = e; many = λ z. refl; plain = λ k. refl; quiet = λ k. refl; effects = refl }
   make-change false d name o own e =

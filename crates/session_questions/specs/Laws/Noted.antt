@@ -8,17 +8,16 @@ use mathlib.Core.Bool.{Bool, true, false, not, cond}
 use lib.Dec.{eqb, ltb}
 use borrow.Author.Tests.{eqb-true, eqb-false, ne-eqb, ltb-true}
 use Rattle.returned.specs.Returned
-use Rattle.volume_tree.specs.Stored.{readVolume}
 use Rattle.log.specs.Programs.{holds}
 use Rattle.log.specs.Stored.{encodeLog, readLog}
 use Rattle.log.specs.Laws.Geometry.{logged-most}
 use Rattle.log.specs.Change
 use Rattle.session.specs.Call.{Call, Answer, geometry, buffers, refusal, answer}
-use Rattle.session.specs.Model.{unless, programRows}
+use Rattle.session.specs.Model.{unless, programRows, toldOf}
 use Rattle.session.specs.Effect.{Effect, note, perform, performAll, acceptedEffects, refusedEffects, effectsOf}
 use Rattle.session.specs.Step.{answerOf, encodeModel, turnedDown, given, step}
 use Rattle.session.specs.Code.Table.{firstNumber}
-use Rattle.session.specs.Laws.Outcome.{waitingIn, outcome}
+use Rattle.session.specs.Laws.Outcome.{outcome}
 use Rattle.session_admission.specs.Code.Admitted.{admission, modelIn}
 use Rattle.session_admission.specs.Laws.Admitted.{admitted, not-admitted}
 use Rattle.session_admission.specs.Laws.Turn.{refused, answered, accepted}
@@ -60,7 +59,7 @@ module _ {n b m p : ℕ} {s v l : List ℕ} where
 -- a call that asks: the program's rows refuse it, or its answer stands; a refused one has no effect
 pub record Asks (n b m p : ℕ) (s v l : List ℕ) (c : Call) (a : Answer) : Type 0 where
   pub is : answerOf (geometry n b m) c (modelIn n b m s v l) ≡ unless c (programRows (readLog m l) p) a
-  pub quiet : (x : Answer) → refusedEffects c x (waitingIn (modelIn n b m s v l)) ≡ []
+  pub quiet : (x : Answer) → refusedEffects c x (toldOf (modelIn n b m s v l)) ≡ []
 
 module _ {n b m p : ℕ} {s v l : List ℕ} {c : Call} {a : Answer} (q : Asks n b m p s v l c a) where
   -- Refused before it is asked.
@@ -76,7 +75,7 @@ module _ {n b m p : ℕ} {s v l : List ℕ} {c : Call} {a : Answer} (q : Asks n 
       go false f g = sym (not-admitted (geometry n b m) c (buffers s v l) k (sym g) z)
 
   module _ (h : MayAsk n b m p s v l) where
-    none-done : (a .returned ≡ 0 → ⊥) → effectsOf c a (readVolume n b v) (waitingIn (modelIn n b m s v l)) ≡ []
+    none-done : (a .returned ≡ 0 → ⊥) → effectsOf c a (toldOf (modelIn n b m s v l)) ≡ []
     unfolding effectsOf
     none-done z = rw (ne-eqb (a .returned) 0 z) (q .quiet a)
 
@@ -92,7 +91,7 @@ module _ {n b m p : ℕ} {s v l : List ℕ} {c : Call} {a : Answer} (q : Asks n 
 
     -- Answered: the dependence is noted in the log, and nothing else changes.
     pub question-noted : {k : ℕ} {r own : List ℕ} → a ≡ answer k r own → k ≡ 0 → (ops : List ℕ)
-        → acceptedEffects c (readVolume n b v) (waitingIn (modelIn n b m s v l)) ≡ note p ops ∷ []
+        → acceptedEffects c (toldOf (modelIn n b m s v l)) ≡ note p ops ∷ []
         → (after : List ℕ) → after ≡ encodeLog m (Change.note p ops (readLog m l))
         → given k r own (buffers s v after) ≡ step (geometry n b m) c (buffers s v l)
     unfolding performAll perform

@@ -22,7 +22,7 @@ readGives v o f own = answer (readNumber (readAnswer v o f own)) (readResults (r
 
 -- It is refused for its program, or answers of the view.
 pub read-asks : {n b m p : ℕ} {s v l : List ℕ} {o f : ℕ} {own : List ℕ} → Asks n b m p s v l (Call.read p o f own) (readGives (readVolume n b v) o f own)
-unfolding answerOf Question.readOf
+unfolding answerOf
 read-asks = record { is = refl; quiet = λ x. refl }
 
 -- The object of an accepted read is below 256.

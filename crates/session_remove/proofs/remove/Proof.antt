@@ -2,9 +2,10 @@
 use native.Mathlib.Omega.{arith}
 use mathlib.Core.Path.{refl, sym, _∙_}
 use Rattle.record.specs.Operation.{Operation}
-use Rattle.volume_tree.specs.Stored.{readVolume}
 use Rattle.log.specs.Stored.{readLog}
+use Rattle.session.specs.Model.{toldOf}
 use Rattle.session.specs.Call.{geometry, buffers}
+use Rattle.session_admission.specs.Code.Admitted.{modelIn}
 use Rattle.session_admission.specs.Laws.Admitted.{admitted}
 use Rattle.session_change.specs.Laws.Change.{lent-refuses, change-refuses, change-accepted, change-own}
 use Rattle.session_change.specs.Laws.Issued.{issuing-room, issuing-able, issued-outcome}
@@ -116,7 +117,7 @@ returns-3 c =
     let r = remove-record (readLog (a .m) (a .log .now) .next) (a .program) (x .remove-refusal .result .object) (a .parent) (a .name .now) in
     issued-outcome ch (k .change-refusal .result) (k .change-refusal .ensures) (at-if2 .if2 .left)
     (Operation.remove (x .remove-refusal .result .object) (a .parent) (a .name .now))
-    (remove-issues (a .directory) (readVolume (a .n) (a .b) (a .view .now)) (a .program) (a .parent) (a .name .now) (x .remove-refusal .result .object) is) _ r
+    (remove-issues (a .directory) (toldOf (modelIn (a .n) (a .b) (a .m) (a .server .now) (a .view .now) (a .log .now))) (a .program) (a .parent) (a .name .now) (x .remove-refusal .result .object) is) _ r
     (u .issue-entry .result)
     (u .issue-entry .last .0) (u .issue-entry .last .1 .0) (u .issue-entry .ensures) (c .of .result) (c .of .ensures)
 

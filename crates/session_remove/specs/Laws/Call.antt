@@ -11,9 +11,11 @@ use Rattle.volume_entry.specs.Entry.{isFile, isDirectory}
 use Rattle.volume_tree.specs.Volume.{Volume, search}
 use Rattle.volume_tree.specs.Stored.{readVolume}
 use Rattle.record_writer.specs.Code.Writer.{entryRecord}
+use Rattle.session.specs.Told.{Told}
+use Rattle.session.specs.Model.{toldOf}
 use Rattle.session.specs.Call.{geometry}
 use Rattle.session.specs.Issue.{issues, onFound, removes}
-use Rattle.session.specs.Edit.{removeRows, removeOf}
+use Rattle.session.specs.Edit.{changed, removeRows}
 use Rattle.session.specs.Step.{answerOf}
 use Rattle.session.specs.Laws.Edit.{remove-accepted}
 use Rattle.session.specs.Laws.Issuing.{Issuing}
@@ -27,22 +29,22 @@ pub remove-plain : (dir : Bool) (p d : ℕ) (name : List ℕ) → Plain (removeC
 remove-plain true p d name = λ k. refl
 remove-plain false p d name = λ k. refl
 
-remove-removes : (dir : Bool) (v : Volume) (p d : ℕ) (name : List ℕ) → issues v (removeCall dir p d name) ≡ removes v d name
-remove-removes true v p d name = refl
-remove-removes false v p d name = refl
+remove-removes : (dir : Bool) (t : Told) (p d : ℕ) (name : List ℕ) → issues t (removeCall dir p d name) ≡ removes (t .view) d name
+remove-removes true t p d name = refl
+remove-removes false t p d name = refl
 
-pub remove-issues : (dir : Bool) (v : Volume) (p d : ℕ) (name : List ℕ) (o : ℕ) → search v d name ≡ some o → issues v (removeCall dir p d name) ≡ Operation.remove o d name ∷ []
-remove-issues dir v p d name o e = remove-removes dir v p d name ∙ ap (λ (w : Option ℕ). onFound w (λ i. Operation.remove i d name)) e
+pub remove-issues : (dir : Bool) (t : Told) (p d : ℕ) (name : List ℕ) (o : ℕ) → search (t .view) d name ≡ some o → issues t (removeCall dir p d name) ≡ Operation.remove o d name ∷ []
+remove-issues dir t p d name o e = remove-removes dir t p d name ∙ ap (λ (w : Option ℕ). onFound w (λ i. Operation.remove i d name)) e
 
 module _ (n b m p : ℕ) (s v l : List ℕ) (h : Admitted n b m s v l) where
   pub remove-change : (dir : Bool) (d : ℕ) (name : List ℕ) (own o : ℕ) → Finds (readVolume n b v) d name (removeRows (removedKind dir) (readVolume n b v) d name) own o
       → Change n b m p s v l (removeCall dir p d name) own 1
-  unfolding answerOf removeOf
+  unfolding answerOf
   remove-change true d name own o f =
-      let many : own ≡ 0 → length (issues (readVolume n b v) (removeCall true p d name)) ≡ 1 = λ z. ap length (remove-issues true (readVolume n b v) p d name o (f .found z)) in
+      let many : own ≡ 0 → length (issues (toldOf (modelIn n b m s v l)) (removeCall true p d name)) ≡ 1 = λ z. ap length (remove-issues true (toldOf (modelIn n b m s v l)) p d name o (f .found z)) in
       record { held = h; rows = removeRows isDirectory (readVolume n b v) d name; is = refl; rise = refl; number = f .number; many = many; plain = λ k. refl; quiet = λ k. refl; effects = refl }
   remove-change false d name own o f =
-      let many : own ≡ 0 → length (issues (readVolume n b v) (removeCall false p d name)) ≡ 1 = λ z. ap length (remove-issues false (readVolume n b v) p d name o (f .found z)) in
+      let many : own ≡ 0 → length (issues (toldOf (modelIn n b m s v l)) (removeCall false p d name)) ≡ 1 = λ z. ap length (remove-issues false (toldOf (modelIn n b m s v l)) p d name o (f .found z)) in
       record { held = h; rows = removeRows isFile (readVolume n b v) d name; is = refl; rise = refl; number = f .number; many = many; plain = λ k. refl; quiet = λ k. refl; effects = refl }
 
   pub remove-issuing : (dir : Bool) (d : ℕ) (name : List ℕ) (o : ℕ) → search (readVolume n b v) d name ≡ some o
@@ -50,13 +52,13 @@ module _ (n b m p : ℕ) (s v l : List ℕ) (h : Admitted n b m s v l) where
       → Issuing (geometry n b m) (modelIn n b m s v l) p (Operation.remove o d name ∷ [])
   unfolding answerOf
   remove-issuing dir d name o is e =
-      let a = remove-accepted (geometry n b m) (modelIn n b m s v l) (h .holds .sound) (removedKind dir) p d name (removeCall dir p d name) (remove-removes dir (readVolume n b v) p d name) (by dir e) in
+      let a = remove-accepted (geometry n b m) (modelIn n b m s v l) (h .holds .sound) (removedKind dir) p d name (removeCall dir p d name) (remove-removes dir (toldOf (modelIn n b m s v l)) p d name) (by dir e) in
       let other = a .1 in
       let same : a .0 ≡ o = cc in
       subst (λ (i : ℕ). Issuing (geometry n b m) (modelIn n b m s v l) p (Operation.remove i d name ∷ [])) same (a .2)
     where
       by : (c : Bool) → answerOf (geometry n b m) (removeCall c p d name) (modelIn n b m s v l) .returned ≡ 0
-          → removeOf (geometry n b m) (removeCall c p d name) (removedKind c) p d name (modelIn n b m s v l) .returned ≡ 0
+          → changed (geometry n b m) (removeCall c p d name) p (removeRows (removedKind c) (readVolume n b v) d name) (modelIn n b m s v l) .returned ≡ 0
       by true r = r
       by false r = r
 

@@ -4,6 +4,7 @@ use mathlib.Core.Path.{refl, sym, _∙_}
 use Rattle.record.specs.Operation.{Operation}
 use Rattle.log.specs.Stored.{readLog}
 use Rattle.record_writer.specs.Code.Writer.{displacedBy}
+use Rattle.session.specs.Call
 use Rattle.session.specs.Call.{Call, geometry, buffers}
 use Rattle.session_admission.specs.Laws.Admitted.{admitted}
 use Rattle.session_change.specs.Laws.Change.{lent-refuses, change-refuses, change-accepted, change-own}

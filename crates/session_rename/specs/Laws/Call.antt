@@ -8,9 +8,11 @@ use Rattle.record.specs.Operation.{Operation, recordOf}
 use Rattle.volume_tree.specs.Volume.{search}
 use Rattle.volume_tree.specs.Stored.{readVolume}
 use Rattle.record_writer.specs.Code.Writer.{displacedBy, renameRecord}
+use Rattle.session.specs.Model.{toldOf}
+use Rattle.session.specs.Call
 use Rattle.session.specs.Call.{Call, geometry}
 use Rattle.session.specs.Issue.{issues, onFound, displaced}
-use Rattle.session.specs.Edit.{renameRows, renameOf}
+use Rattle.session.specs.Edit.{renameRows}
 use Rattle.session.specs.Step.{answerOf}
 use Rattle.session.specs.Laws.Edit.{rename-accepted}
 use Rattle.session.specs.Laws.Issuing.{Issuing}
@@ -21,7 +23,7 @@ use Rattle.session_rename.specs.Code.Rename.{Moves}
 module _ (n b m p : ℕ) (s v l : List ℕ) (h : Admitted n b m s v l) where
   pub rename-change : (d : ℕ) (name : List ℕ) (e : ℕ) (second : List ℕ) (own o t : ℕ) → Moves (readVolume n b v) d name e second own o t
       → Change n b m p s v l (Call.rename p d name e second) own 1
-  unfolding answerOf renameOf
+  unfolding answerOf
   rename-change d name e second own o t f =
       record {
         held = h;
@@ -37,7 +39,7 @@ module _ (n b m p : ℕ) (s v l : List ℕ) (h : Admitted n b m s v l) where
 
   module _ (d : ℕ) (name : List ℕ) (e : ℕ) (second : List ℕ) (o t : ℕ) (is : search (readVolume n b v) d name ≡ some o)
       (gone : displacedBy t ≡ displaced o (search (readVolume n b v) e second)) where
-    pub rename-issues : issues (readVolume n b v) (Call.rename p d name e second) ≡ Operation.rename o d e (displacedBy t) name second ∷ []
+    pub rename-issues : issues (toldOf (modelIn n b m s v l)) (Call.rename p d name e second) ≡ Operation.rename o d e (displacedBy t) name second ∷ []
     rename-issues =
         ap (λ (w : Option ℕ). onFound w (λ i. Operation.rename i d e (displaced i (search (readVolume n b v) e second)) name second)) is
         ∙ ap (λ (w : Option ℕ). Operation.rename o d e w name second ∷ []) (sym gone)

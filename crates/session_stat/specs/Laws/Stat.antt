@@ -21,7 +21,7 @@ statGives v o = answer (statNumber (statAnswer v o)) (statResults (statAnswer v 
 
 -- It is refused for its program, or answers of the view.
 pub stat-asks : {n b m p : ℕ} {s v l : List ℕ} {o : ℕ} → Asks n b m p s v l (Call.stat p o) (statGives (readVolume n b v) o)
-unfolding answerOf Question.statOf
+unfolding answerOf
 stat-asks = record { is = refl; quiet = λ x. refl }
 
 -- The object of an accepted stat is below 256.

@@ -8,7 +8,7 @@ use Rattle.log.specs.Stored.{readLog}
 use Rattle.session.specs.Call.{Call, geometry}
 use Rattle.session.specs.Call
 use Rattle.session.specs.Issue.{writes}
-use Rattle.session.specs.Edit.{writeRows, writeOf}
+use Rattle.session.specs.Edit.{writeRows}
 use Rattle.session.specs.Step.{answerOf}
 use Rattle.session.specs.Code.Table.{firstNumber}
 use Rattle.session.specs.Laws.Edit.{write-some, write-accepted}
@@ -20,7 +20,7 @@ module _ {n b m : ℕ} {s v l : List ℕ} (h : Admitted n b m s v l) (p : ℕ) w
   module _ (o f : ℕ) (d : List ℕ) (own count : ℕ) (number : own ≡ firstNumber (writeRows b (readVolume n b v) o f d))
       (many : count ≡ length (writes (readVolume n b v) o f d)) where
     pub write-change : Change n b m p s v l (Call.write p o f d) own count
-    unfolding answerOf writeOf
+    unfolding answerOf
     write-change =
         record {
           held = h;

@@ -1,8 +1,11 @@
 -- `session_admission::lent::all_formed` meets its contract. Assumes nothing.
 use mathlib.Core.Path.{sym, _∙_}
+use mathlib.Core.Bool.{_&&_}
 use Rattle.volume_tree.specs.Stored.{formed}
 use Rattle.log.specs.Stored.{formedLog}
-use Rattle.session_admission.specs.Laws.Admitted.{at-third, at-second, at-first}
+use Rattle.session.specs.Model.{agreeing}
+use Rattle.session_admission.specs.Code.Admitted.{modelIn}
+use Rattle.session_admission.specs.Laws.Admitted.{at-third, at-second, at-first, last-of-two, first-of-two}
 use borrow.Author.Needs.{needs}
 use Rattle.session_admission.proofs.lent.all_formed.Statement.{statement}
 use Rattle.session_admission.proofs.lent.all_formed.Tie as tie
@@ -16,29 +19,46 @@ well-formed-requires-2 c κs = search needs
 log-formed-requires : tie.Need-log-formed-requires
 log-formed-requires c κs = search needs
 
+agree-requires : tie.Need-agree-requires
+agree-requires c κs = search needs
+
 returns : tie.Need-returns
 returns c =
-    let second = c .before .before in
+    let third = c .before .before in
+    let second = third .before .before in
     let first = second .before .before in
     let a = first .before .before .before .before .args in
-    c .log-formed .ensures
-    ∙ at-third (formed (a .n) (a .b) (a .server .now)) (formed (a .n) (a .b) (a .view .now)) (formedLog (a .n) (a .b) (a .m) (a .log .now))
-    (sym (first .well-formed .ensures) ∙ second .before .if1 .taken) (sym (second .well-formed2 .ensures) ∙ c .before .if2 .taken)
+    let l = formedLog (a .n) (a .b) (a .m) (a .log .now) in
+    let t = agreeing (modelIn (a .n) (a .b) (a .m) (a .server .now) (a .view .now) (a .log .now)) in
+    c .agree .ensures ∙ last-of-two l t (sym (third .log-formed .ensures) ∙ c .before .if3 .taken)
+    ∙ at-third (formed (a .n) (a .b) (a .server .now)) (formed (a .n) (a .b) (a .view .now)) (l && t) (sym (first .well-formed .ensures) ∙ second .before .if1 .taken)
+    (sym (second .well-formed2 .ensures) ∙ third .before .if2 .taken)
 
 returns-2 : tie.Need-returns-2
 returns-2 c =
-    let second = c .before in
+    let third = c .before in
+    let second = third .before .before in
     let first = second .before .before in
     let a = first .before .before .before .before .args in
-    at-second (formed (a .n) (a .b) (a .server .now)) (formed (a .n) (a .b) (a .view .now)) (formedLog (a .n) (a .b) (a .m) (a .log .now))
-    (sym (first .well-formed .ensures) ∙ second .before .if1 .taken) (sym (second .well-formed2 .ensures) ∙ c .if2 .left)
+    let l = formedLog (a .n) (a .b) (a .m) (a .log .now) in
+    let t = agreeing (modelIn (a .n) (a .b) (a .m) (a .server .now) (a .view .now) (a .log .now)) in
+    first-of-two l t (sym (third .log-formed .ensures) ∙ c .if3 .left)
+    ∙ at-third (formed (a .n) (a .b) (a .server .now)) (formed (a .n) (a .b) (a .view .now)) (l && t) (sym (first .well-formed .ensures) ∙ second .before .if1 .taken)
+    (sym (second .well-formed2 .ensures) ∙ third .before .if2 .taken)
 
 returns-3 : tie.Need-returns-3
 returns-3 c =
+    let second = c .before in
+    let first = second .before .before in
+    let a = first .before .before .before .before .args in
+    at-second (formed (a .n) (a .b) (a .server .now)) (formed (a .n) (a .b) (a .view .now)) _ (sym (first .well-formed .ensures) ∙ second .before .if1 .taken)
+    (sym (second .well-formed2 .ensures) ∙ c .if2 .left)
+
+returns-4 : tie.Need-returns-4
+returns-4 c =
     let first = c .before in
     let a = first .before .before .before .before .args in
-    at-first (formed (a .n) (a .b) (a .server .now)) (formed (a .n) (a .b) (a .view .now)) (formedLog (a .n) (a .b) (a .m) (a .log .now))
-    (sym (first .well-formed .ensures) ∙ c .if1 .left)
+    at-first (formed (a .n) (a .b) (a .server .now)) (formed (a .n) (a .b) (a .view .now)) _ (sym (first .well-formed .ensures) ∙ c .if1 .left)
 
 pub all-formed-spec : {M : Type 1} → statement M
 all-formed-spec =
@@ -47,6 +67,8 @@ all-formed-spec =
     well-formed-requires
     well-formed-requires-2
     log-formed-requires
+    agree-requires
     returns
     returns-2
-    returns-3)
+    returns-3
+    returns-4)
