@@ -54,17 +54,17 @@ answers g (c ∷ cs) x =
     (a .returned ∷ a .results) ∷ answers g cs (leavesOf g c x)
 
 -- what a row asks
-pub data Question : Type 0 where
+pub data Asked : Type 0 where
   -- calls on a volume as mounted that are all accepted, and then calls: what do these answer?
-  answersTo : Geometry → List Call → List Call → Question
+  answersTo : Geometry → List Call → List Call → Asked
   -- the same, where the next number is another before the last calls
-  answersFrom : ℕ → Geometry → List Call → List Call → Question
+  answersFrom : ℕ → Geometry → List Call → List Call → Asked
   -- calls on a volume as mounted that are all accepted: which of the waiting operations precede each?
-  orderAfter : Geometry → List Call → Question
+  orderAfter : Geometry → List Call → Asked
   -- calls on a volume as mounted that are all accepted, and then a call: what stands in its own buffer after it?
-  leftBy : Geometry → List Call → Call → Question
+  leftBy : Geometry → List Call → Call → Asked
   -- bytes: which record stands at their start?
-  recordOf : List ℕ → Question
+  recordOf : List ℕ → Asked
 
 -- what document 01 tells
 pub data Said : Type 0 where
@@ -87,7 +87,7 @@ abbrev pub onRecord : Option Record → Said
 onRecord none = nothing
 onRecord (some r) = aRecord r
 
-unfoldable pub answerTo : Question → Said
+unfoldable pub answerTo : Asked → Said
 answerTo (answersTo g before calls) = onModel (after g before (some (mounted g))) (λ x. numbers (answers g calls x))
 answerTo (answersFrom n g before calls) =
     onModel (after g before (some (mounted g))) (λ x. numbers (answers g calls (withLog (withNext n (x .log)) x)))
@@ -97,10 +97,10 @@ answerTo (recordOf s) = onRecord (decodeRecord s)
 
 pub record Row : Type 0 where
   pub number : ℕ
-  pub asked : Question
+  pub asked : Asked
   pub told : Said
 
-abbrev pub C : ℕ → Question → Said → Row
+abbrev pub C : ℕ → Asked → Said → Row
 C n q t = record { number = n; asked = q; told = t }
 
 abbrev pub small : Geometry

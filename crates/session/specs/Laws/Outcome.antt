@@ -7,17 +7,11 @@ use mathlib.Core.Bool.{Bool, true, false, cond}
 use lib.Dec.{eqb}
 use borrow.Author.Tests.{eqb-true, eqb-false}
 use Rattle.returned.specs.Returned
-use Rattle.record.specs.Operation.{Record}
-use Rattle.log.specs.Change.{waitingOf}
 use Rattle.session.specs.Call.{Geometry, Buffers, Call, Answer, refusal}
 use Rattle.session.specs.Model.{Model, toldOf}
 use Rattle.session.specs.Effect.{Effect, performAll, acceptedEffects, refusedEffects, effectsOf}
 use Rattle.session.specs.Step.{answerOf, leavesOf, encodeModel, turnedDown, step}
 use Rattle.session.specs.Laws.Step.{Holds, step-holds}
-
--- the waiting operations of a model
-abbrev pub waitingIn : Model → List Record
-waitingIn x = waitingOf (x .log .slots)
 
 accepted-effects : (c : Call) (a : Answer) (x : Model) → a .returned ≡ 0 → effectsOf c a (toldOf x) ≡ acceptedEffects c (toldOf x)
 unfolding effectsOf

@@ -10,19 +10,19 @@ use lib.Dec.{leb, eqb}
 use Rattle.buffer.specs.Decoded.{isSome}
 use Rattle.returned.specs.Returned
 use Rattle.volume_tree.specs.Volume.{Volume}
-use Rattle.volume_entry.specs.Stored.{sameBytes}
-use Rattle.volume_tree.specs.Form.{wellFormed}
-use Rattle.volume_tree.specs.Stored.{volumeBytes, lent, formed, encodeVolume, readVolume, decodeVolume}
+use Rattle.volume_tree.specs.Stored.{volumeBytes, lent, formed, readVolume, decodeVolume}
 use Rattle.volume_tree.specs.Code.Lent.{Formed}
+use Rattle.volume_tree.specs.Laws.Stored as VolumeLaws
 use Rattle.volume_tree.specs.Laws.Lent as LentLaws
-use Rattle.log.specs.Slot.{Log, wellFormedLog}
-use Rattle.log.specs.Stored.{logBytes, lentLog, formedLog, encodeLog, decodeLog, readLog}
+use Rattle.log.specs.Slot.{Log}
+use Rattle.log.specs.Stored.{logBytes, lentLog, formedLog, decodeLog, readLog}
 use Rattle.log.specs.Code.Slots.{Logged}
 use Rattle.log.specs.Laws.Stored as StoredLaws
 use Rattle.log_form.specs.Laws.Form as FormLaws
 use Rattle.session.specs.Call.{Geometry, Buffers, Call, geometry, buffers, inRange, serverFits, lengthsFit}
 use Rattle.session.specs.Model.{Model, agreeing}
 use Rattle.session.specs.Step.{joinModel, encodeModel, decodeModel, turnedDown, onModel, step}
+use Rattle.session.specs.Laws.Edit.{objects-few, blocks-few}
 use Rattle.session.specs.Laws.Step.{Holds, model-stored, model-read}
 use Rattle.session_admission.specs.Code.Admitted.{admission, modelIn, Admitted}
 
@@ -50,24 +50,32 @@ module _ (n b m : ℕ) (s v l : List ℕ) where
   there x true = refl
   there x false = refl
 
-  read-if : (x y : Volume) (z : Log) (a c d : Bool)
-      → isSome (cond a (some x) none) && (isSome (cond c (some y) none) && (isSome (cond d (some z) none) && agreeing (record { server = x; view = y; log = z })))
-      ≡ isSome (joinModel (cond a (some x) none) (cond c (some y) none) (cond d (some z) none))
-  read-if x y z false c d = refl
-  read-if x y z true false d = refl
-  read-if x y z true true false = refl
-  read-if x y z true true true = there (record { server = x; view = y; log = z }) (agreeing (record { server = x; view = y; log = z }))
+  -- three that hold, where they hold something, what the bytes tell of
+  read-model : (x y : Volume) (z : Log) (a c : Option Volume) (d : Option Log) → ((u : Volume) → a ≡ some u → x ≡ u) → ((u : Volume) → c ≡ some u → y ≡ u) → ((u : Log) → d ≡ some u → z ≡ u)
+      → isSome a && (isSome c && (isSome d && agreeing (record { server = x; view = y; log = z }))) ≡ isSome (joinModel a c d)
+  read-model x y z none c d f g k = refl
+  read-model x y z (some u) none d f g k = refl
+  read-model x y z (some u) (some w) none f g k = refl
+  read-model x y z (some u) (some w) (some q) f g k =
+      (λ i. agreeing (record { server = f u refl i; view = g w refl i; log = k q refl i }))
+      ∙ there (record { server = u; view = w; log = q }) (agreeing (record { server = u; view = w; log = q }))
 
   -- Where the lengths are right, the three buffers store a model exactly if each is of the right form and they agree.
   pub form-model : inRange (geometry n b m) && lengthsFit (geometry n b m) (buffers s v l) ≡ true
       → formed n b s && (formed n b v && (formedLog n b m l && agreeing (modelIn n b m s v l))) ≡ isSome (decodeModel (geometry n b m) (buffers s v l))
-  unfolding formed formedLog decodeModel decodeVolume decodeLog
+  unfolding formed formedLog decodeModel
   form-model h =
       let all = and-eq-true-iff (lent n b s) (lent n b v && lentLog n b m l) .0 (lengths-lent ∙ h) in
       let two = and-eq-true-iff (lent n b v) (lentLog n b m l) .0 (all .1) in
-      (rw (all .0, two .0, two .1)) ∙ read-if (readVolume n b s) (readVolume n b v) (readLog m l) (wellFormed n b (readVolume n b s) && sameBytes (encodeVolume b (readVolume n b s)) s)
-      (wellFormed n b (readVolume n b v) && sameBytes (encodeVolume b (readVolume n b v)) v)
-      (wellFormedLog n b m (readLog m l) && sameBytes (encodeLog m (readLog m l)) l)
+      let range = and-eq-true-iff (inRange (geometry n b m)) (lengthsFit (geometry n b m) (buffers s v l)) .0 h .0 in
+      let volume : (t : List ℕ) (u : Volume) → decodeVolume n b t ≡ some u → readVolume n b t ≡ u =
+      λ t u e.
+      let d = VolumeLaws.encode-decode n b t u e in
+      sym (ap (readVolume n b) (d .1)) ∙ VolumeLaws.read-good n b u (objects-few (geometry n b m) range) (blocks-few (geometry n b m) range) (d .0) in
+      let log : (u : Log) → decodeLog n b m l ≡ some u → readLog m l ≡ u =
+      λ u e. let d = StoredLaws.encode-decode n b m l u e in sym (ap (readLog m) (d .1)) ∙ StoredLaws.read-log n b m u (d .0) in
+      (rw (all .0, two .0, two .1))
+      ∙ read-model (readVolume n b s) (readVolume n b v) (readLog m l) (decodeVolume n b s) (decodeVolume n b v) (decodeLog n b m l) (volume s) (volume v) log
 
 -- A call that is refused for what it is lent is refused by `step` alike.
 pub not-admitted : (g : Geometry) (c : Call) (s : Buffers) (k : ℕ) → admission g s ≡ k → (k ≡ 0 → ⊥) → step g c s ≡ turnedDown k c s
@@ -128,22 +136,12 @@ formed-admitted n b m s v l range fs fv fl agree =
           (model-stored (geometry n b m) x (record { range = range; server = fs .form; view = fv .form; log = fl .form; agree = agree }));
     }
 
--- Three tests, one after the other: what is known where each of them is left.
-pub at-third : (x y z : Bool) → x ≡ true → y ≡ true → z ≡ x && (y && z)
-at-third x y z e f = rw (e, f)
+-- Two tests, one after the other: what is known where the first is passed, and where it is not.
+pub passes : (x y : Bool) → x ≡ true → y ≡ x && y
+passes x y e = rw e
 
-pub at-second : (x y z : Bool) → x ≡ true → y ≡ false → false ≡ x && (y && z)
-at-second x y z e f = rw (e, f)
-
-pub at-first : (x y z : Bool) → x ≡ false → false ≡ x && (y && z)
-at-first x y z e = rw e
-
--- Two tests.
-pub last-of-two : (x y : Bool) → x ≡ true → y ≡ x && y
-last-of-two x y e = rw e
-
-pub first-of-two : (x y : Bool) → x ≡ false → false ≡ x && y
-first-of-two x y e = rw e
+pub stops : (x y : Bool) → x ≡ false → false ≡ x && y
+stops x y e = rw e
 
 module _ (g : Geometry) (s : Buffers) where
   -- What was tested decides the number.

@@ -10,20 +10,22 @@ use Rattle.returned.specs.Returned
 use Rattle.returned.specs.Returned.{rankOf}
 use Rattle.returned.specs.declared.Value.{Value}
 use Rattle.returned.specs.Shapes.{value}
+use Rattle.volume_tree.specs.Stored.{readVolume}
 use Rattle.log.specs.Programs.{holds}
 use Rattle.log.specs.Slot.{Log}
 use Rattle.log.specs.Stored.{readLog}
-use Rattle.session.specs.Call.{Geometry, Buffers, Call, Answer, geometry, buffers, answer}
+use Rattle.session.specs.Class.{Change}
+use Rattle.session.specs.Call.{Geometry, Buffers, change, Answer, geometry, buffers, answer}
 use Rattle.session.specs.Refusal.{Row}
 use Rattle.session.specs.Model.{programRows, roomFor}
-use Rattle.session.specs.Edit.{roomRows}
+use Rattle.session.specs.Edit.{roomRows, changeRows}
 use Rattle.session.specs.Step.{given, answerOf, step}
 use Rattle.session.specs.Code.Table.{firstNumber, rising}
 use Rattle.session.specs.Laws.Table.{first-left, first-right}
 use Rattle.session_admission.specs.Code.Admitted.{admission, modelIn}
 use Rattle.session_admission.specs.Laws.Admitted.{not-admitted}
 use Rattle.session_admission.specs.Laws.Turn.{refused, answered}
-use Rattle.session_change.specs.Code.Change.{ownRow, changeNumber, Plain, Change}
+use Rattle.session_change.specs.Code.Change.{ownRow, changeNumber, ChangeBy}
 
 -- The first of two tables that stand one behind the other rises too.
 pub rising-left : (k : ℕ) (a b : List Row) → rising k (a ++ b) ≡ true → rising k a ≡ true
@@ -80,45 +82,49 @@ own-passes g l p own count h = go (not (ltb p 32)) (holds (l .marks) p) (eqb own
     go false false true q e = eqb-true own 0 q
     go false false false q e = e
 
--- A call that is refused for what it is lent.
-pub lent-refuses : (g : Geometry) (c : Call) (s : Buffers) → Plain c → (k : ℕ) → k ≡ admission g s → (k ≡ 0 → ⊥) → (r : Value) → r ≡ value k 0
-    → given (r .returned) (r .value ∷ []) [] s ≡ step g c s
-lent-refuses g c s plain k e z r q =
-    (λ i. record { gives = answer (q i .returned) (q i .value ∷ []) []; leaves = s })
-    ∙ (λ i. record { gives = sym (plain k) i; leaves = s }) ∙ sym (not-admitted g c s k (sym e) z)
+-- A change that is refused for what it is lent.
+pub lent-refuses : (g : Geometry) (p : ℕ) (c : Change) (s : Buffers) (k : ℕ) → k ≡ admission g s → (k ≡ 0 → ⊥) → (r : Value) → r ≡ value k 0
+    → given (r .returned) (r .value ∷ []) [] s ≡ step g (change p c) s
+lent-refuses g p c s k e z r q =
+    (λ i. record { gives = answer (q i .returned) (q i .value ∷ []) []; leaves = s }) ∙ sym (not-admitted g (change p c) s k (sym e) z)
 
-module _ {n b m p : ℕ} {s v l : List ℕ} {c : Call} {own count : ℕ} (ch : Change n b m p s v l c own count) where
+module _ {n b m p : ℕ} {s v l : List ℕ} {c : Change} {own count : ℕ} (ch : ChangeBy n b m p s v l c own count) where
+  -- its own rows
+  abbrev own-rows : List Row
+  own-rows = changeRows (geometry n b m) (readVolume n b v) c
+
   -- The code's number is that of the whole table.
   table-number : changeNumber (geometry n b m) (readLog m l) p own count
-      ≡ firstNumber (programRows (readLog m l) p ++ (ch .rows ++ roomRows (geometry n b m) c (modelIn n b m s v l)))
+      ≡ firstNumber (programRows (readLog m l) p ++ (own-rows ++ roomRows (geometry n b m) (change p c) (modelIn n b m s v l)))
   unfolding changeNumber
   table-number =
       let g = geometry n b m in
       let x = modelIn n b m s v l in
-      over-program (readLog m l) p (ownRow own ∷ roomFor g (readLog m l) count) (ch .rows ++ roomRows g c x)
-      (own-first own (ch .rows) (roomFor g (readLog m l) count) (roomRows g c x) (rising-left (rankOf Returned.marked) (ch .rows) (roomRows g c x) (ch .rise)) (ch .number)
+      over-program (readLog m l) p (ownRow own ∷ roomFor g (readLog m l) count) (own-rows ++ roomRows g (change p c) x)
+      (own-first own own-rows (roomFor g (readLog m l) count) (roomRows g (change p c) x) (rising-left (rankOf Returned.marked) own-rows (roomRows g (change p c) x) (ch .rise)) (ch .number)
       (λ z. ap (λ (k : ℕ). firstNumber (roomFor g (readLog m l) k)) (sym (ch .many z))))
 
   -- Refused: nothing changes.
   pub change-refuses : (k : ℕ) → k ≡ changeNumber (geometry n b m) (readLog m l) p own count → (k ≡ 0 → ⊥) → (r : Value) → r ≡ value k 0
-      → given (r .returned) (r .value ∷ []) [] (buffers s v l) ≡ step (geometry n b m) c (buffers s v l)
+      → given (r .returned) (r .value ∷ []) [] (buffers s v l) ≡ step (geometry n b m) (change p c) (buffers s v l)
+  unfolding answerOf
   change-refuses k e z r q =
       (λ i. record { gives = answer (q i .returned) (q i .value ∷ []) []; leaves = buffers s v l })
-      ∙ (λ i. record { gives = sym (ch .plain k) i; leaves = buffers s v l })
-      ∙ sym (refused n b m s v l (ch .held) c (programRows (readLog m l) p ++ (ch .rows ++ roomRows (geometry n b m) c (modelIn n b m s v l)))
-      (answer 0 (readLog m l .next ∷ []) []) (ch .is) (ch .rise) k (e ∙ table-number) z (ch .quiet k))
+      ∙ sym (refused n b m s v l (ch .held) (change p c) (programRows (readLog m l) p ++ (own-rows ++ roomRows (geometry n b m) (change p c) (modelIn n b m s v l)))
+      (answer 0 (readLog m l .next ∷ []) []) refl (ch .rise) k (e ∙ table-number) z refl)
 
   -- Accepted: the answer is the next sequence number.
   pub change-passes : (k : ℕ) → k ≡ changeNumber (geometry n b m) (readLog m l) p own count → k ≡ 0
-      → 0 ≡ firstNumber (programRows (readLog m l) p ++ (ch .rows ++ roomRows (geometry n b m) c (modelIn n b m s v l)))
+      → 0 ≡ firstNumber (programRows (readLog m l) p ++ (own-rows ++ roomRows (geometry n b m) (change p c) (modelIn n b m s v l)))
   change-passes k e z = sym z ∙ e ∙ table-number
 
   pub change-accepted : (k : ℕ) → k ≡ changeNumber (geometry n b m) (readLog m l) p own count → k ≡ 0
-      → answerOf (geometry n b m) c (modelIn n b m s v l) .returned ≡ 0
+      → answerOf (geometry n b m) (change p c) (modelIn n b m s v l) .returned ≡ 0
+  unfolding answerOf
   change-accepted k e z =
       ap (λ (a : Answer). a .returned)
-      (answered n b m s v l (ch .held) c (programRows (readLog m l) p ++ (ch .rows ++ roomRows (geometry n b m) c (modelIn n b m s v l)))
-      (answer 0 (readLog m l .next ∷ []) []) (ch .is) (ch .rise) (change-passes k e z))
+      (answered n b m s v l (ch .held) (change p c) (programRows (readLog m l) p ++ (own-rows ++ roomRows (geometry n b m) (change p c) (modelIn n b m s v l)))
+      (answer 0 (readLog m l .next ∷ []) []) refl (ch .rise) (change-passes k e z))
 
   -- Its own rows let it pass.
   pub change-own : (k : ℕ) → k ≡ changeNumber (geometry n b m) (readLog m l) p own count → k ≡ 0 → own ≡ 0

@@ -11,12 +11,13 @@ use Rattle.record.specs.Operation.{Operation, Record, recordOf, operands}
 use Rattle.volume_tree.specs.Stored.{readVolume}
 use Rattle.log.specs.Stored.{readLog}
 use Rattle.log.specs.Laws.Slot.{formed-inv}
-use Rattle.session.specs.Call.{Call, geometry, buffers, answer}
-use Rattle.session.specs.Issue.{issues}
-use Rattle.session.specs.Edit.{roomRows}
+use Rattle.session.specs.Class.{Change}
+use Rattle.session.specs.Call.{change, geometry, buffers, answer}
+use Rattle.session.specs.Issue.{operationsOf}
+use Rattle.session.specs.Edit.{roomRows, changeRows}
 use Rattle.session.specs.Model.{Model, agreeing, withView, withLog, programRows, toldOf}
 use Rattle.session.specs.Effect.{Effect, note, issue, perform, performAll, issuing}
-use Rattle.session.specs.Step.{given, encodeModel, step}
+use Rattle.session.specs.Step.{given, encodeModel, step, answerOf}
 use Rattle.session.specs.Laws.Issue.{record-good}
 use Rattle.session.specs.Laws.Issuing.{Issuing, issuing-rest, issued-sound}
 use Rattle.log_draft.specs.Code.Issued.{Issuable, Issued, Room, issuedAll, appliedAll, AllIssued}
@@ -24,7 +25,7 @@ use Rattle.log_draft.specs.Laws.Issued.{issued-logged, issued-read, issued-form
 use Rattle.session_admission.specs.Code.Admitted.{modelIn, Admitted}
 use Rattle.session_admission.specs.Laws.Admitted.{formed-admitted}
 use Rattle.session_admission.specs.Laws.Turn.{accepted}
-use Rattle.session_change.specs.Code.Change.{changeNumber, Change}
+use Rattle.session_change.specs.Code.Change.{changeNumber, ChangeBy}
 use Rattle.session_change.specs.Laws.Change.{change-passes}
 
 module _ {n b m p : ℕ} {s v l : List ℕ} (h : Admitted n b m s v l) {o : Operation} {os : List Operation}
@@ -83,10 +84,11 @@ performed p [] x = refl
 performed p (o ∷ os) x = performed p os (perform (issue p o) (perform (note p (operands o)) x))
 
 -- The accepted case of every change: the buffers store what issuing its operations leaves.
-pub changed-outcome : {n b m p : ℕ} {s v l : List ℕ} {c : Call} {own count : ℕ} (ch : Change n b m p s v l c own count) (k : ℕ)
-    → k ≡ changeNumber (geometry n b m) (readLog m l) p own count → k ≡ 0 → (os : List Operation) → issues (toldOf (modelIn n b m s v l)) c ≡ os
+pub changed-outcome : {n b m p : ℕ} {s v l : List ℕ} {c : Change} {own count : ℕ} (ch : ChangeBy n b m p s v l c own count) (k : ℕ)
+    → k ≡ changeNumber (geometry n b m) (readLog m l) p own count → k ≡ 0 → (os : List Operation) → operationsOf (toldOf (modelIn n b m s v l)) c ≡ os
     → (x : ℕ) (log view : List ℕ) → AllIssued b m x log view (readVolume n b v) (readLog m l) p os → (r : Value) → r ≡ value 0 x
-    → given (r .returned) (r .value ∷ []) [] (buffers s view log) ≡ step (geometry n b m) c (buffers s v l)
+    → given (r .returned) (r .value ∷ []) [] (buffers s view log) ≡ step (geometry n b m) (change p c) (buffers s v l)
+unfolding answerOf
 changed-outcome {n} {b} {m} {p} {s} {v} {l} {c} ch k e z os all x log view u r w =
     let g = geometry n b m in
     let y = modelIn n b m s v l in
@@ -96,14 +98,14 @@ changed-outcome {n} {b} {m} {p} {s} {v} {l} {c} ch k e z os all x log view u r w
     ap (encodeModel g) (performed p os y) ∙ (λ j. record { server = ch .held .server .stored j; view = sym (u .view) j; log = sym (u .log) j }) in
     (λ j. record { gives = answer (told j .returned) (told j .value ∷ []) []; leaves = sym left j })
     ∙ sym
-    (accepted n b m s v l (ch .held) c (programRows (readLog m l) p ++ (ch .rows ++ roomRows g c y)) a (ch .is) (ch .rise) (change-passes ch k e z) refl
-    ∙ ap (λ (f : List Effect). record { gives = a; leaves = encodeModel g (performAll f y) }) (ch .effects ∙ ap (issuing p) all))
+    (accepted n b m s v l (ch .held) (change p c) (programRows (readLog m l) p ++ (changeRows g (readVolume n b v) c ++ roomRows g (change p c) y)) a refl (ch .rise) (change-passes ch k e z) refl
+    ∙ ap (λ (f : List Effect). record { gives = a; leaves = encodeModel g (performAll f y) }) (ap (issuing p) all))
 
 -- Where it issues one operation, what issuing that one leaves.
-pub issued-outcome : {n b m p : ℕ} {s v l : List ℕ} {c : Call} {own count : ℕ} (ch : Change n b m p s v l c own count) (k : ℕ)
+pub issued-outcome : {n b m p : ℕ} {s v l : List ℕ} {c : Change} {own count : ℕ} (ch : ChangeBy n b m p s v l c own count) (k : ℕ)
     → k ≡ changeNumber (geometry n b m) (readLog m l) p own count → k ≡ 0
-    → (o : Operation) → issues (toldOf (modelIn n b m s v l)) c ≡ o ∷ [] → (d : Record) → d ≡ recordOf (readLog m l .next) p o
+    → (o : Operation) → operationsOf (toldOf (modelIn n b m s v l)) c ≡ o ∷ [] → (d : Record) → d ≡ recordOf (readLog m l .next) p o
     → (x : ℕ) (log view : List ℕ) → Issued n b m x log view (readVolume n b v) (readLog m l) d → (r : Value) → r ≡ value 0 x
-    → given (r .returned) (r .value ∷ []) [] (buffers s view log) ≡ step (geometry n b m) c (buffers s v l)
+    → given (r .returned) (r .value ∷ []) [] (buffers s view log) ≡ step (geometry n b m) (change p c) (buffers s v l)
 issued-outcome {n} {b} {m} {p} {s} {v} {l} ch k e z o one d q x log view u r w =
     changed-outcome ch k e z (o ∷ []) one x log view (one-issued (subst (Issued n b m x log view (readVolume n b v) (readLog m l)) q u)) r w

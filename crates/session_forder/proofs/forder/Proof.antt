@@ -5,11 +5,12 @@ use Rattle.record.specs.Operation.{Operation}
 use Rattle.record.specs.Fields.{objectsOf}
 use Rattle.record_writer.specs.Code.Writer.{forderRecord}
 use Rattle.log.specs.Stored.{readLog}
+use Rattle.session.specs.Class
 use Rattle.session.specs.Call.{geometry, buffers}
 use Rattle.session.specs.Call
 use Rattle.session_admission.specs.Code.Admitted.{Admitted}
 use Rattle.session_admission.specs.Laws.Admitted.{admitted}
-use Rattle.session_change.specs.Code.Change.{Change}
+use Rattle.session_change.specs.Code.Change.{ChangeBy}
 use Rattle.session_change.specs.Laws.Change.{lent-refuses, change-refuses}
 use Rattle.session_change.specs.Laws.Issued.{issuing-room, issuing-able, issued-outcome}
 use Rattle.session_forder.specs.Laws.Call.{forder-change, forder-issuing, forder-even, forder-issued}
@@ -29,7 +30,7 @@ held c =
     admitted (a .n) (a .b) (a .m) (a .server .now) (a .view .now) (a .log .now) (sym (c .before .admit .ensures) ∙ c .if1 .left)
 
 -- the call as a change, with the number that its own table gives
-change : (c : tie.After-change-refusal) → let a = start (c .before .before .before) .args in Change (a .n) (a .b) (a .m) (a .program) (a .server .now) (a .view .now) (a .log .now) (Call.forder (a .program) (a .list .now)) (c .before .before .forder-refusal .result) 1
+change : (c : tie.After-change-refusal) → let a = start (c .before .before .before) .args in ChangeBy (a .n) (a .b) (a .m) (a .program) (a .server .now) (a .view .now) (a .log .now) (Class.forder (a .list .now)) (c .before .before .forder-refusal .result) 1
 change c =
     let a = start (c .before .before .before) .args in
     let w = c .before .before .forder-refusal in
@@ -49,7 +50,7 @@ returns c =
     let d = c .before .before in
     let start = d .before .before .before .before .before .before in
     let a = start .args in
-    lent-refuses (geometry (a .n) (a .b) (a .m)) (Call.forder (a .program) (a .list .now)) (buffers (a .server .now) (a .view .now) (a .log .now)) (λ k. refl) (d .admit .result)
+    lent-refuses (geometry (a .n) (a .b) (a .m)) (a .program) (Class.forder (a .list .now)) (buffers (a .server .now) (a .view .now) (a .log .now)) (d .admit .result)
     (d .admit .ensures) (c .before .if1 .taken) (c .refused .result) (c .refused .ensures)
 
 forder-refusal-requires : tie.Need-forder-refusal-requires

@@ -11,7 +11,8 @@ use Rattle.volume_tree.specs.Code.Lent.{Formed}
 use Rattle.volume_apply.specs.Apply.{apply}
 use Rattle.log.specs.Stored.{readLog}
 use Rattle.log_draft.specs.Code.Issued.{Waits, Issued}
-use Rattle.session.specs.Call.{Call, geometry}
+use Rattle.session.specs.Class
+use Rattle.session.specs.Call.{geometry}
 use Rattle.session.specs.Call
 use Rattle.session.specs.Edit.{forderRows}
 use Rattle.session.specs.Step.{answerOf}
@@ -19,25 +20,20 @@ use Rattle.session.specs.Code.Table.{firstNumber}
 use Rattle.session.specs.Laws.Issuing.{Issuing}
 use Rattle.session.specs.Laws.Edit.{forder-accepted}
 use Rattle.session_admission.specs.Code.Admitted.{modelIn, Admitted}
-use Rattle.session_change.specs.Code.Change.{changeNumber, Change}
+use Rattle.session_change.specs.Code.Change.{changeNumber, ChangeBy}
 use Rattle.session_change.specs.Laws.Change.{change-accepted, change-own}
 use Rattle.session_forder.specs.Laws.List.{list-even}
 
 module _ {n b m : ℕ} {s v l : List ℕ} (h : Admitted n b m s v l) (p : ℕ) where
   module _ (d : List ℕ) (own : ℕ) (number : own ≡ firstNumber (forderRows (readVolume n b v) d)) where
-    pub forder-change : Change n b m p s v l (Call.forder p d) own 1
+    pub forder-change : ChangeBy n b m p s v l (Class.forder d) own 1
     unfolding answerOf
     forder-change =
         record {
           held = h;
-          rows = forderRows (readVolume n b v) d;
-          is = refl;
           rise = refl;
           number = number;
           many = λ z. refl;
-          plain = λ k. refl;
-          quiet = λ k. refl;
-          effects = refl;
         }
 
     module _ (k : ℕ) (e : k ≡ changeNumber (geometry n b m) (readLog m l) p own 1) (z : k ≡ 0) where

@@ -4,12 +4,13 @@ use mathlib.Core.Path.{refl, sym, _∙_}
 use Rattle.record.specs.Operation.{Operation}
 use Rattle.record_writer.specs.Code.Writer.{lengthRecord}
 use Rattle.log.specs.Stored.{readLog}
+use Rattle.session.specs.Class
 use Rattle.session.specs.Call.{geometry, buffers}
 use Rattle.session.specs.Call
 use Rattle.session.specs.Laws.Issuing.{Issuing}
 use Rattle.session_admission.specs.Code.Admitted.{modelIn, Admitted}
 use Rattle.session_admission.specs.Laws.Admitted.{admitted}
-use Rattle.session_change.specs.Code.Change.{Change}
+use Rattle.session_change.specs.Code.Change.{ChangeBy}
 use Rattle.session_change.specs.Laws.Change.{lent-refuses, change-refuses}
 use Rattle.session_change.specs.Laws.Issued.{issuing-room, issuing-able, issued-outcome}
 use Rattle.session_length.specs.Laws.Call.{length-change, length-issuing}
@@ -30,7 +31,7 @@ held c =
     admitted (a .n) (a .b) (a .m) (a .server .now) (a .view .now) (a .log .now) (sym (c .before .admit .ensures) ∙ c .if1 .left)
 
 -- the call as a change, with the number that its own table gives
-change : (c : tie.After-change-refusal) → let a = start (c .before .before .before .before) .args in Change (a .n) (a .b) (a .m) (a .program) (a .server .now) (a .view .now) (a .log .now) (Call.setLength (a .program) (a .object) (a .length)) (c .before .before .length-refusal .result) 1
+change : (c : tie.After-change-refusal) → let a = start (c .before .before .before .before) .args in ChangeBy (a .n) (a .b) (a .m) (a .program) (a .server .now) (a .view .now) (a .log .now) (Class.setLength (a .object) (a .length)) (c .before .before .length-refusal .result) 1
 change c =
     let a = start (c .before .before .before .before) .args in
     length-change (held (c .before .before .before .before)) (a .program) (a .object) (a .length) (c .before .before .length-refusal .result) (c .before .before .length-refusal .ensures)
@@ -58,7 +59,7 @@ returns c =
     let d = c .before .before in
     let start = d .before .before .before .before .before .before in
     let a = start .args in
-    lent-refuses (geometry (a .n) (a .b) (a .m)) (Call.setLength (a .program) (a .object) (a .length)) (buffers (a .server .now) (a .view .now) (a .log .now)) (λ k. refl) (d .admit .result)
+    lent-refuses (geometry (a .n) (a .b) (a .m)) (a .program) (Class.setLength (a .object) (a .length)) (buffers (a .server .now) (a .view .now) (a .log .now)) (d .admit .result)
     (d .admit .ensures) (c .before .if1 .taken) (c .refused .result) (c .refused .ensures)
 
 length-refusal-requires : tie.Need-length-refusal-requires

@@ -5,7 +5,8 @@ use mathlib.Core.List.{List, [], _∷_}
 use Rattle.record.specs.Operation.{Operation}
 use Rattle.volume_tree.specs.Stored.{readVolume}
 use Rattle.log.specs.Stored.{readLog}
-use Rattle.session.specs.Call.{Call, geometry}
+use Rattle.session.specs.Class
+use Rattle.session.specs.Call.{geometry}
 use Rattle.session.specs.Call
 use Rattle.session.specs.Edit.{lengthRows}
 use Rattle.session.specs.Step.{answerOf}
@@ -13,24 +14,19 @@ use Rattle.session.specs.Code.Table.{firstNumber}
 use Rattle.session.specs.Laws.Issuing.{Issuing}
 use Rattle.session.specs.Laws.Edit.{length-accepted}
 use Rattle.session_admission.specs.Code.Admitted.{modelIn, Admitted}
-use Rattle.session_change.specs.Code.Change.{changeNumber, Change}
+use Rattle.session_change.specs.Code.Change.{changeNumber, ChangeBy}
 use Rattle.session_change.specs.Laws.Change.{change-accepted}
 
 module _ {n b m : ℕ} {s v l : List ℕ} (h : Admitted n b m s v l) (p : ℕ) where
   module _ (o f : ℕ) (own : ℕ) (number : own ≡ firstNumber (lengthRows b (readVolume n b v) o f)) where
-    pub length-change : Change n b m p s v l (Call.setLength p o f) own 1
+    pub length-change : ChangeBy n b m p s v l (Class.setLength o f) own 1
     unfolding answerOf
     length-change =
         record {
           held = h;
-          rows = lengthRows b (readVolume n b v) o f;
-          is = refl;
           rise = refl;
           number = number;
           many = λ z. refl;
-          plain = λ k. refl;
-          quiet = λ k. refl;
-          effects = refl;
         }
 
     pub length-issuing : (k : ℕ) → k ≡ changeNumber (geometry n b m) (readLog m l) p own 1 → k ≡ 0

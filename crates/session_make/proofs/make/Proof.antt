@@ -8,8 +8,8 @@ use Rattle.session_admission.specs.Code.Admitted.{modelIn}
 use Rattle.session_admission.specs.Laws.Admitted.{admitted}
 use Rattle.session_change.specs.Laws.Change.{lent-refuses, change-refuses, change-accepted}
 use Rattle.session_change.specs.Laws.Issued.{issuing-room, issuing-able, issued-outcome}
-use Rattle.session_make.specs.Code.Make.{makeCall}
-use Rattle.session_make.specs.Laws.Call.{makeOperation, make-plain, make-issues, make-change, make-issuing, make-record}
+use Rattle.session_make.specs.Code.Make.{makeChange}
+use Rattle.session_make.specs.Laws.Call.{makeOperation, make-issues, make-change, make-issuing, make-record}
 use borrow.Author.Needs.{needs}
 use Rattle.session_make.proofs.make.Statement.{statement}
 use Rattle.session_make.proofs.make.Tie as tie
@@ -31,8 +31,8 @@ returns c =
     let y = c .before .before in
     let start = y .before .before .before .before .before .before .before in
     let a = start .args in
-    lent-refuses (geometry (a .n) (a .b) (a .m)) (makeCall (a .directory) (a .program) (a .parent) (a .name .now) (a .object))
-    (buffers (a .server .now) (a .view .now) (a .log .now)) (make-plain (a .directory) (a .program) (a .parent) (a .name .now) (a .object)) (y .admit .result)
+    lent-refuses (geometry (a .n) (a .b) (a .m)) (a .program) (makeChange (a .directory) (a .parent) (a .name .now) (a .object))
+    (buffers (a .server .now) (a .view .now) (a .log .now)) (y .admit .result)
     (y .admit .ensures) (c .before .if1 .taken) (c .refused .result) (c .refused .ensures)
 
 make-refusal-requires : tie.Need-make-refusal-requires

@@ -4,11 +4,15 @@ use mathlib.Core.List.{List}
 use mathlib.Core.Bool.{Bool, true, false}
 use Rattle.record.specs.declared.kind.Kind.{Kind}
 use Rattle.record.specs.declared.kind.Kind.the-variants.{CreateFile, MakeDirectory}
-use Rattle.session.specs.Call.{Call, createFile, makeDirectory}
+use Rattle.session.specs.Class.{Change, createFile, makeDirectory}
+use Rattle.session.specs.Call.{Call, change}
+
+abbrev pub makeChange : Bool → ℕ → List ℕ → ℕ → Change
+makeChange true d n o = makeDirectory d n o
+makeChange false d n o = createFile d n o
 
 abbrev pub makeCall : Bool → ℕ → ℕ → List ℕ → ℕ → Call
-makeCall true p d n o = makeDirectory p d n o
-makeCall false p d n o = createFile p d n o
+makeCall dir p d n o = change p (makeChange dir d n o)
 
 abbrev pub makeKind : Bool → Kind
 makeKind true = MakeDirectory

@@ -18,30 +18,25 @@ use Rattle.session.specs.Code.Table.{firstNumber}
 use Rattle.session.specs.Laws.Edit.{create-accepted, make-accepted}
 use Rattle.session.specs.Laws.Issuing.{Issuing}
 use Rattle.session_admission.specs.Code.Admitted.{modelIn, Admitted}
-use Rattle.session_change.specs.Code.Change.{Plain, Change}
-use Rattle.session_make.specs.Code.Make.{makeCall, makeKind}
+use Rattle.session_change.specs.Code.Change.{ChangeBy}
+use Rattle.session_make.specs.Code.Make.{makeChange, makeCall, makeKind}
 
 -- the operation of either call that makes an entry
 abbrev pub makeOperation : Bool → ℕ → ℕ → List ℕ → Operation
 makeOperation true o d n = Operation.makeDirectory o d n
 makeOperation false o d n = Operation.createFile o d n
 
--- either has one result
-pub make-plain : (dir : Bool) (p d : ℕ) (name : List ℕ) (o : ℕ) → Plain (makeCall dir p d name o)
-make-plain true p d name o = λ k. refl
-make-plain false p d name o = λ k. refl
-
 pub make-issues : (dir : Bool) (t : Told) (p d : ℕ) (name : List ℕ) (o : ℕ) → issues t (makeCall dir p d name o) ≡ makeOperation dir o d name ∷ []
 make-issues true t p d name o = refl
 make-issues false t p d name o = refl
 
 module _ (n b m p : ℕ) (s v l : List ℕ) (h : Admitted n b m s v l) where
-  pub make-change : (dir : Bool) (d : ℕ) (name : List ℕ) (o own : ℕ) → own ≡ firstNumber (makeRows (readVolume n b v) d name o) → Change n b m p s v l (makeCall dir p d name o) own 1
+  pub make-change : (dir : Bool) (d : ℕ) (name : List ℕ) (o own : ℕ) → own ≡ firstNumber (makeRows (readVolume n b v) d name o) → ChangeBy n b m p s v l (makeChange dir d name o) own 1
   unfolding answerOf
   make-change true d name o own e =
-      record { held = h; rows = makeRows (readVolume n b v) d name o; is = refl; rise = refl; number = e; many = λ z. refl; plain = λ k. refl; quiet = λ k. refl; effects = refl }
+      record { held = h; rise = refl; number = e; many = λ z. refl }
   make-change false d name o own e =
-      record { held = h; rows = makeRows (readVolume n b v) d name o; is = refl; rise = refl; number = e; many = λ z. refl; plain = λ k. refl; quiet = λ k. refl; effects = refl }
+      record { held = h; rise = refl; number = e; many = λ z. refl }
 
   pub make-issuing : (dir : Bool) (d : ℕ) (name : List ℕ) (o : ℕ) → answerOf (geometry n b m) (makeCall dir p d name o) (modelIn n b m s v l) .returned ≡ 0
       → Issuing (geometry n b m) (modelIn n b m s v l) p (makeOperation dir o d name ∷ [])

@@ -9,8 +9,8 @@ use Rattle.session_admission.specs.Code.Admitted.{modelIn}
 use Rattle.session_admission.specs.Laws.Admitted.{admitted}
 use Rattle.session_change.specs.Laws.Change.{lent-refuses, change-refuses, change-accepted, change-own}
 use Rattle.session_change.specs.Laws.Issued.{issuing-room, issuing-able, issued-outcome}
-use Rattle.session_remove.specs.Code.Remove.{removeCall}
-use Rattle.session_remove.specs.Laws.Call.{remove-plain, remove-change, remove-issues, remove-issuing, remove-record}
+use Rattle.session_remove.specs.Code.Remove.{removeChange}
+use Rattle.session_remove.specs.Laws.Call.{remove-change, remove-issues, remove-issuing, remove-record}
 use borrow.Author.Needs.{needs}
 use Rattle.session_remove.proofs.remove.Statement.{statement}
 use Rattle.session_remove.proofs.remove.Tie as tie
@@ -32,8 +32,8 @@ returns c =
     let y = c .before .before in
     let start = y .before .before .before .before .before .before .before in
     let a = start .args in
-    lent-refuses (geometry (a .n) (a .b) (a .m)) (removeCall (a .directory) (a .program) (a .parent) (a .name .now)) (buffers (a .server .now) (a .view .now) (a .log .now))
-    (remove-plain (a .directory) (a .program) (a .parent) (a .name .now)) (y .admit .result) (y .admit .ensures) (c .before .if1 .taken) (c .refused .result) (c .refused .ensures)
+    lent-refuses (geometry (a .n) (a .b) (a .m)) (a .program) (removeChange (a .directory) (a .parent) (a .name .now)) (buffers (a .server .now) (a .view .now) (a .log .now))
+    (y .admit .result) (y .admit .ensures) (c .before .if1 .taken) (c .refused .result) (c .refused .ensures)
 
 remove-refusal-requires : tie.Need-remove-refusal-requires
 remove-refusal-requires c κs =

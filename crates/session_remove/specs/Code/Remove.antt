@@ -6,13 +6,17 @@ use mathlib.Core.Bool.{Bool, true, false, not}
 use Rattle.returned.specs.Returned
 use Rattle.volume_entry.specs.Entry.{Entry, isFile, isDirectory}
 use Rattle.volume_tree.specs.Volume.{Volume, entryAt, hasChildren}
-use Rattle.session.specs.Call.{Call, removeFile, removeDirectory}
+use Rattle.session.specs.Class.{Change, removeFile, removeDirectory}
+use Rattle.session.specs.Call.{Call, change}
 use Rattle.session.specs.Refusal.{Row, row}
 
--- the two calls that remove an entry, and the kind that each takes
+-- the two changes that remove an entry, as calls, and the kind that each takes
+abbrev pub removeChange : Bool → ℕ → List ℕ → Change
+removeChange true d n = removeDirectory d n
+removeChange false d n = removeFile d n
+
 abbrev pub removeCall : Bool → ℕ → ℕ → List ℕ → Call
-removeCall true p d n = removeDirectory p d n
-removeCall false p d n = removeFile p d n
+removeCall dir p d n = change p (removeChange dir d n)
 
 abbrev pub removedKind : Bool → Entry → Bool
 removedKind true e = isDirectory e

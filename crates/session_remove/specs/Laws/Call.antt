@@ -7,7 +7,6 @@ use mathlib.Core.Option.{Option, some}
 use lib.ListN.{length}
 use Rattle.record.specs.Operation.{Operation, recordOf}
 use Rattle.record.specs.declared.kind.Kind.the-variants.{Remove}
-use Rattle.volume_entry.specs.Entry.{isFile, isDirectory}
 use Rattle.volume_tree.specs.Volume.{Volume, search}
 use Rattle.volume_tree.specs.Stored.{readVolume}
 use Rattle.record_writer.specs.Code.Writer.{entryRecord}
@@ -20,14 +19,9 @@ use Rattle.session.specs.Step.{answerOf}
 use Rattle.session.specs.Laws.Edit.{remove-accepted}
 use Rattle.session.specs.Laws.Issuing.{Issuing}
 use Rattle.session_admission.specs.Code.Admitted.{modelIn, Admitted}
-use Rattle.session_change.specs.Code.Change.{Plain, Change}
+use Rattle.session_change.specs.Code.Change.{ChangeBy}
 use Rattle.session_names.specs.Code.Rows.{Finds}
-use Rattle.session_remove.specs.Code.Remove.{removeCall, removedKind}
-
--- either remove has one result, and issues the removal of what was found
-pub remove-plain : (dir : Bool) (p d : ℕ) (name : List ℕ) → Plain (removeCall dir p d name)
-remove-plain true p d name = λ k. refl
-remove-plain false p d name = λ k. refl
+use Rattle.session_remove.specs.Code.Remove.{removeChange, removeCall, removedKind}
 
 remove-removes : (dir : Bool) (t : Told) (p d : ℕ) (name : List ℕ) → issues t (removeCall dir p d name) ≡ removes (t .view) d name
 remove-removes true t p d name = refl
@@ -38,14 +32,14 @@ remove-issues dir t p d name o e = remove-removes dir t p d name ∙ ap (λ (w :
 
 module _ (n b m p : ℕ) (s v l : List ℕ) (h : Admitted n b m s v l) where
   pub remove-change : (dir : Bool) (d : ℕ) (name : List ℕ) (own o : ℕ) → Finds (readVolume n b v) d name (removeRows (removedKind dir) (readVolume n b v) d name) own o
-      → Change n b m p s v l (removeCall dir p d name) own 1
+      → ChangeBy n b m p s v l (removeChange dir d name) own 1
   unfolding answerOf
   remove-change true d name own o f =
       let many : own ≡ 0 → length (issues (toldOf (modelIn n b m s v l)) (removeCall true p d name)) ≡ 1 = λ z. ap length (remove-issues true (toldOf (modelIn n b m s v l)) p d name o (f .found z)) in
-      record { held = h; rows = removeRows isDirectory (readVolume n b v) d name; is = refl; rise = refl; number = f .number; many = many; plain = λ k. refl; quiet = λ k. refl; effects = refl }
+      record { held = h; rise = refl; number = f .number; many = many }
   remove-change false d name own o f =
       let many : own ≡ 0 → length (issues (toldOf (modelIn n b m s v l)) (removeCall false p d name)) ≡ 1 = λ z. ap length (remove-issues false (toldOf (modelIn n b m s v l)) p d name o (f .found z)) in
-      record { held = h; rows = removeRows isFile (readVolume n b v) d name; is = refl; rise = refl; number = f .number; many = many; plain = λ k. refl; quiet = λ k. refl; effects = refl }
+      record { held = h; rise = refl; number = f .number; many = many }
 
   pub remove-issuing : (dir : Bool) (d : ℕ) (name : List ℕ) (o : ℕ) → search (readVolume n b v) d name ≡ some o
       → answerOf (geometry n b m) (removeCall dir p d name) (modelIn n b m s v l) .returned ≡ 0

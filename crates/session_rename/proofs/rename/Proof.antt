@@ -1,11 +1,12 @@
 -- `session_rename::rename` meets its contract. Assumes nothing.
 use native.Mathlib.Omega.{arith}
-use mathlib.Core.Path.{refl, sym, _∙_}
+use mathlib.Core.Path.{sym, _∙_}
 use Rattle.record.specs.Operation.{Operation}
 use Rattle.log.specs.Stored.{readLog}
 use Rattle.record_writer.specs.Code.Writer.{displacedBy}
+use Rattle.session.specs.Class
 use Rattle.session.specs.Call
-use Rattle.session.specs.Call.{Call, geometry, buffers}
+use Rattle.session.specs.Call.{geometry, buffers}
 use Rattle.session_admission.specs.Laws.Admitted.{admitted}
 use Rattle.session_change.specs.Laws.Change.{lent-refuses, change-refuses, change-accepted, change-own}
 use Rattle.session_change.specs.Laws.Issued.{issuing-room, issuing-able, issued-outcome}
@@ -31,8 +32,8 @@ returns c =
     let y = c .before .before in
     let start = y .before .before .before .before .before .before .before .before in
     let a = start .args in
-    lent-refuses (geometry (a .n) (a .b) (a .m)) (Call.rename (a .program) (a .parent) (a .name .now) (a .second-parent) (a .second-name .now))
-    (buffers (a .server .now) (a .view .now) (a .log .now)) (λ k. refl) (y .admit .result) (y .admit .ensures) (c .before .if1 .taken) (c .refused .result)
+    lent-refuses (geometry (a .n) (a .b) (a .m)) (a .program) (Class.rename (a .parent) (a .name .now) (a .second-parent) (a .second-name .now))
+    (buffers (a .server .now) (a .view .now) (a .log .now)) (y .admit .result) (y .admit .ensures) (c .before .if1 .taken) (c .refused .result)
     (c .refused .ensures)
 
 rename-refusal-requires : tie.Need-rename-refusal-requires

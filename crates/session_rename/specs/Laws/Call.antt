@@ -9,32 +9,27 @@ use Rattle.volume_tree.specs.Volume.{search}
 use Rattle.volume_tree.specs.Stored.{readVolume}
 use Rattle.record_writer.specs.Code.Writer.{displacedBy, renameRecord}
 use Rattle.session.specs.Model.{toldOf}
+use Rattle.session.specs.Class
 use Rattle.session.specs.Call
 use Rattle.session.specs.Call.{Call, geometry}
 use Rattle.session.specs.Issue.{issues, onFound, displaced}
-use Rattle.session.specs.Edit.{renameRows}
 use Rattle.session.specs.Step.{answerOf}
 use Rattle.session.specs.Laws.Edit.{rename-accepted}
 use Rattle.session.specs.Laws.Issuing.{Issuing}
 use Rattle.session_admission.specs.Code.Admitted.{modelIn, Admitted}
-use Rattle.session_change.specs.Code.Change.{Change}
+use Rattle.session_change.specs.Code.Change.{ChangeBy}
 use Rattle.session_rename.specs.Code.Rename.{Moves}
 
 module _ (n b m p : ℕ) (s v l : List ℕ) (h : Admitted n b m s v l) where
   pub rename-change : (d : ℕ) (name : List ℕ) (e : ℕ) (second : List ℕ) (own o t : ℕ) → Moves (readVolume n b v) d name e second own o t
-      → Change n b m p s v l (Call.rename p d name e second) own 1
+      → ChangeBy n b m p s v l (Class.rename d name e second) own 1
   unfolding answerOf
   rename-change d name e second own o t f =
       record {
         held = h;
-        rows = renameRows (readVolume n b v) d name e second;
-        is = refl;
         rise = refl;
         number = f .number;
         many = λ z. ap (λ (w : Option ℕ). length (onFound w (λ i. Operation.rename i d e (displaced i (search (readVolume n b v) e second)) name second))) (f .found z);
-        plain = λ k. refl;
-        quiet = λ k. refl;
-        effects = refl;
       }
 
   module _ (d : ℕ) (name : List ℕ) (e : ℕ) (second : List ℕ) (o t : ℕ) (is : search (readVolume n b v) d name ≡ some o)

@@ -5,7 +5,8 @@ use mathlib.Core.List.{List}
 use lib.ListN.{length}
 use Rattle.volume_tree.specs.Stored.{readVolume}
 use Rattle.log.specs.Stored.{readLog}
-use Rattle.session.specs.Call.{Call, geometry}
+use Rattle.session.specs.Class
+use Rattle.session.specs.Call.{geometry}
 use Rattle.session.specs.Call
 use Rattle.session.specs.Issue.{writes}
 use Rattle.session.specs.Edit.{writeRows}
@@ -13,25 +14,20 @@ use Rattle.session.specs.Step.{answerOf}
 use Rattle.session.specs.Code.Table.{firstNumber}
 use Rattle.session.specs.Laws.Edit.{write-some, write-accepted}
 use Rattle.session_admission.specs.Code.Admitted.{modelIn, Admitted}
-use Rattle.session_change.specs.Code.Change.{changeNumber, Change, MayIssue}
+use Rattle.session_change.specs.Code.Change.{changeNumber, ChangeBy, MayIssue}
 use Rattle.session_change.specs.Laws.Change.{change-accepted}
 
 module _ {n b m : ℕ} {s v l : List ℕ} (h : Admitted n b m s v l) (p : ℕ) where
   module _ (o f : ℕ) (d : List ℕ) (own count : ℕ) (number : own ≡ firstNumber (writeRows b (readVolume n b v) o f d))
       (many : count ≡ length (writes (readVolume n b v) o f d)) where
-    pub write-change : Change n b m p s v l (Call.write p o f d) own count
+    pub write-change : ChangeBy n b m p s v l (Class.write o f d) own count
     unfolding answerOf
     write-change =
         record {
           held = h;
-          rows = writeRows b (readVolume n b v) o f d;
-          is = refl;
           rise = refl;
           number = number;
           many = λ z. sym many;
-          plain = λ k. refl;
-          quiet = λ k. refl;
-          effects = refl;
         }
 
     -- An accepted write has some bytes, and its operations may be issued.

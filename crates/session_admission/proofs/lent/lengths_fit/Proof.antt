@@ -1,8 +1,9 @@
 -- `session_admission::lent::lengths_fit` meets its contract: each buffer is tested as it should be lent. Assumes nothing.
 use mathlib.Core.Path.{sym, _∙_}
+use mathlib.Core.Bool.{_&&_}
 use Rattle.volume_tree.specs.Stored.{lent}
 use Rattle.log.specs.Stored.{lentLog}
-use Rattle.session_admission.specs.Laws.Admitted.{lengths-lent, at-third, at-second, at-first}
+use Rattle.session_admission.specs.Laws.Admitted.{lengths-lent, passes, stops}
 use borrow.Author.Needs.{needs}
 use Rattle.session_admission.proofs.lent.lengths_fit.Statement.{statement}
 use Rattle.session_admission.proofs.lent.lengths_fit.Tie as tie
@@ -27,7 +28,8 @@ returns c =
     let v = a .view .now in
     let l = a .log .now in
     c .is-lent3 .ensures
-    ∙ at-third (lent n b s) (lent n b v) (lentLog n b (a .m) l) (sym (first .is-lent .ensures) ∙ second .before .if1 .taken) (sym (second .is-lent2 .ensures) ∙ c .before .if2 .taken)
+    ∙ passes (lent n b v) (lentLog n b (a .m) l) (sym (second .is-lent2 .ensures) ∙ c .before .if2 .taken)
+    ∙ passes (lent n b s) (lent n b v && lentLog n b (a .m) l) (sym (first .is-lent .ensures) ∙ second .before .if1 .taken)
     ∙ lengths-lent n b (a .m) s v l
 
 returns-2 : tie.Need-returns-2
@@ -40,7 +42,8 @@ returns-2 c =
     let s = a .server .now in
     let v = a .view .now in
     let l = a .log .now in
-    at-second (lent n b s) (lent n b v) (lentLog n b (a .m) l) (sym (first .is-lent .ensures) ∙ second .before .if1 .taken) (sym (second .is-lent2 .ensures) ∙ c .if2 .left)
+    stops (lent n b v) (lentLog n b (a .m) l) (sym (second .is-lent2 .ensures) ∙ c .if2 .left)
+    ∙ passes (lent n b s) (lent n b v && lentLog n b (a .m) l) (sym (first .is-lent .ensures) ∙ second .before .if1 .taken)
     ∙ lengths-lent n b (a .m) s v l
 
 returns-3 : tie.Need-returns-3
@@ -52,7 +55,7 @@ returns-3 c =
     let s = a .server .now in
     let v = a .view .now in
     let l = a .log .now in
-    at-first (lent n b s) (lent n b v) (lentLog n b (a .m) l) (sym (first .is-lent .ensures) ∙ c .if1 .left) ∙ lengths-lent n b (a .m) s v l
+    stops (lent n b s) (lent n b v && lentLog n b (a .m) l) (sym (first .is-lent .ensures) ∙ c .if1 .left) ∙ lengths-lent n b (a .m) s v l
 
 pub lengths-fit-spec : {M : Type 1} → statement M
 lengths-fit-spec =

@@ -6,6 +6,7 @@ use lib.ListN.{length}
 use Rattle.volume_tree.specs.Volume.{Volume}
 use Rattle.volume_tree.specs.Stored.{readVolume}
 use Rattle.log.specs.Stored.{readLog}
+use Rattle.session.specs.Class
 use Rattle.session.specs.Call.{geometry, buffers}
 use Rattle.session.specs.Call
 use Rattle.session.specs.Issue.{writesAt, writes}
@@ -13,7 +14,7 @@ use Rattle.session.specs.Laws.Write.{writes-few}
 use Rattle.session_admission.specs.Code.Admitted.{Admitted}
 use Rattle.session_admission.specs.Laws.Admitted.{admitted}
 use Rattle.log_draft.specs.Code.Issued.{AllIssued}
-use Rattle.session_change.specs.Code.Change.{Change, MayIssue}
+use Rattle.session_change.specs.Code.Change.{ChangeBy, MayIssue}
 use Rattle.session_change.specs.Laws.Change.{lent-refuses, change-refuses}
 use Rattle.session_change.specs.Laws.Issued.{changed-outcome}
 use Rattle.session_write.specs.Laws.Call.{write-change, write-bytes, write-issuing}
@@ -49,7 +50,7 @@ counted c =
     ∙ ap (λ (len : ℕ). length (writesAt len (a .object) (a .offset) (a .«data» .now))) (c .before .before .before .length-of .ensures)
 
 -- the call as a change, with the number that its own table gives
-change : (c : tie.After-change-refusal) → let a = start (lent c) .args in Change (a .n) (a .b) (a .m) (a .program) (a .server .now) (a .view .now) (a .log .now) (Call.write (a .program) (a .object) (a .offset) (a .«data» .now)) (c .before .before .before .before .before .write-refusal .result) (c .before .before .operations .result)
+change : (c : tie.After-change-refusal) → let a = start (lent c) .args in ChangeBy (a .n) (a .b) (a .m) (a .program) (a .server .now) (a .view .now) (a .log .now) (Class.write (a .object) (a .offset) (a .«data» .now)) (c .before .before .before .before .before .write-refusal .result) (c .before .before .operations .result)
 change c =
     let a = start (lent c) .args in
     let w = c .before .before .before .before .before .write-refusal in
@@ -72,7 +73,7 @@ returns c =
     let d = c .before .before in
     let start = d .before .before .before .before .before .before .before in
     let a = start .args in
-    lent-refuses (geometry (a .n) (a .b) (a .m)) (Call.write (a .program) (a .object) (a .offset) (a .«data» .now)) (buffers (a .server .now) (a .view .now) (a .log .now)) (λ k. refl)
+    lent-refuses (geometry (a .n) (a .b) (a .m)) (a .program) (Class.write (a .object) (a .offset) (a .«data» .now)) (buffers (a .server .now) (a .view .now) (a .log .now))
     (d .admit .result) (d .admit .ensures) (c .before .if1 .taken) (c .refused .result) (c .refused .ensures)
 
 write-refusal-requires : tie.Need-write-refusal-requires
