@@ -25,8 +25,8 @@ waitingSlot r = record { state = waiting; dependents = with 0 (r .program); reco
 -- "takes one sequence number and waits"
 unfoldable pub issue : ℕ → Operation → Log → Log
 issue p o l =
-    let r : Record = record { sequence = l .next; program = p; operation = o } in
-    withNext (l .next + 1) (withSlots (l .slots ++ (waitingSlot r ∷ [])) l)
+    let r : Record = record { sequence = l .head .next; program = p; operation = o } in
+    withNext (l .head .next + 1) (withSlots (l .slots ++ (waitingSlot r ∷ [])) l)
 
 -- "frees its slot": later slots move down by one
 unfoldable pub removed : (Slot → Bool) → List Slot → List Slot
@@ -49,7 +49,7 @@ dependentsOf [] = 0
 dependentsOf (s ∷ l) = union (cond (isWaiting s) (s .dependents) 0) (dependentsOf l)
 
 unfoldable pub discard : Log → Log
-discard l = withMarks (union (l .marks) (dependentsOf (l .slots))) (withSlots (map discarded (l .slots)) l)
+discard l = withMarks (union (l .head .marks) (dependentsOf (l .slots))) (withSlots (map discarded (l .slots)) l)
 
 -- "Take writes the earliest loss of a program and frees its slot."
 abbrev pub isLossOf : ℕ → Slot → Bool
@@ -64,7 +64,7 @@ taken p l = withSlots (removed (isLossOf p) (l .slots)) l
 
 -- "Renew clears its mark."
 abbrev pub renewed : ℕ → Log → Log
-renewed p l = withMarks (without (l .marks) p) l
+renewed p l = withMarks (without (l .head .marks) p) l
 
 -- the waiting operation of a sequence number
 unfoldable pub waitingAt : ℕ → Log → Option Record

@@ -1,5 +1,6 @@
 pub mod Order
 pub mod Slot
+pub mod Head
 pub mod Stored
 pub mod Geometry
 pub mod Needed

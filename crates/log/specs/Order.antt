@@ -6,7 +6,7 @@ use mathlib.Core.Bool.{Bool, true, false, not, _&&_, _||_, cond}
 use mathlib.Core.Option.{Option, none, some}
 use lib.ListN.{length}
 use lib.Dec.{ltb}
-use Rattle.record.specs.Operation.{Operation, createFile, makeDirectory, remove, rename, overwrite, append, setLength, forder, Record, operands}
+use Rattle.record.specs.Operation.{Operation, Record, operands, Stretch, overwriteOf}
 use Rattle.record.specs.Fields.{member}
 
 unfoldable pub shares : List ℕ → List ℕ → Bool
@@ -20,21 +20,6 @@ touches a b = shares (operands a) (operands b)
 -- two stretches, each by its offset and bytes, have a common byte
 abbrev pub overlap : ℕ → List ℕ → ℕ → List ℕ → Bool
 overlap f c g d = ltb f (g + length d) && ltb g (f + length c)
-
--- what an overwrite writes and where; none of any other operation
-pub record Stretch : Type 0 where
-  pub offset : ℕ
-  pub content : List ℕ
-
-abbrev pub overwriteOf : Operation → Option Stretch
-overwriteOf (createFile o p n) = none
-overwriteOf (makeDirectory o p n) = none
-overwriteOf (remove o p n) = none
-overwriteOf (rename o p q d n m) = none
-overwriteOf (overwrite o f c) = some (record { offset = f; content = c })
-overwriteOf (append o f c) = none
-overwriteOf (setLength o f) = none
-overwriteOf (forder l) = none
 
 -- two overwrites, and no common byte
 abbrev pub separate : Option Stretch → Option Stretch → Bool

@@ -29,21 +29,25 @@ withState t s = record { state = t; dependents = s .dependents; recorded = s .re
 abbrev pub withDependents : ℕ → Slot → Slot
 withDependents d s = record { state = s .state; dependents = d; recorded = s .recorded }
 
--- "next sequence number (4, from 1), marked programs (4 ..), then .. slots": the used ones, in their order
-pub record Log : Type 0 where
+-- "next sequence number (4, from 1), marked programs (4 ..)": what stands before the slots
+pub record Head : Type 0 where
   pub next : ℕ
   pub marks : ℕ
+
+-- "then .. slots": the used ones, in their order
+pub record Log : Type 0 where
+  pub head : Head
   pub slots : List Slot
 
 -- a log with another next number, with other marks, and with other slots
 abbrev pub withNext : ℕ → Log → Log
-withNext n l = record { next = n; marks = l .marks; slots = l .slots }
+withNext n l = record { head = record { next = n; marks = l .head .marks }; slots = l .slots }
 
 abbrev pub withMarks : ℕ → Log → Log
-withMarks k l = record { next = l .next; marks = k; slots = l .slots }
+withMarks k l = record { head = record { next = l .head .next; marks = k }; slots = l .slots }
 
 abbrev pub withSlots : List Slot → Log → Log
-withSlots s l = record { next = l .next; marks = l .marks; slots = s }
+withSlots s l = record { head = l .head; slots = s }
 
 abbrev pub isWaiting : Slot → Bool
 isWaiting s = eqb (stateNumber (s .state)) 1
@@ -70,12 +74,17 @@ rising next [] = true
 rising next (s ∷ []) = ltb (sequenceOf s) next
 rising next (s ∷ t ∷ l) = follows s t && rising next (t ∷ l)
 
--- "next sequence number (4, from 1)"; 4,294,967,295 is the last
+-- "next sequence number (4, from 1)"; 4,294,967,295 is the last, and any 32 bits are marks
+abbrev pub goodHead : Head → Bool
+goodHead h = (leb 1 (h .next) && ltb (h .next) (2 ^ 32)) && ltb (h .marks) (2 ^ 32)
+
 unfoldable pub wellFormedLog : ℕ → ℕ → ℕ → Log → Bool
 wellFormedLog n b m l =
-    (leb 1 (l .next) && ltb (l .next) (2 ^ 32))
-    && (ltb (l .marks) (2 ^ 32) && (leb (length (l .slots)) m && (goodSlots n b (l .slots) && rising (l .next) (l .slots))))
+    goodHead (l .head) && (leb (length (l .slots)) m && (goodSlots n b (l .slots) && rising (l .head .next) (l .slots)))
 
 -- Mount "begins an empty log, next number 1 and no marks"
+abbrev pub emptyHead : Head
+emptyHead = record { next = 1; marks = 0 }
+
 abbrev pub emptyLog : Log
-emptyLog = record { next = 1; marks = 0; slots = [] }
+emptyLog = record { head = emptyHead; slots = [] }

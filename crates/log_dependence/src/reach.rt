@@ -17,9 +17,10 @@ pub fn reach_slot(s: &[u8], i: usize, reached: &mut [u8; 256]) -> bool
     ensures { λ r. ⌜ Tried (slotAt (slotsIn (now (s .entry))) i) (now (reached .entry)) (now (reached .exit)) r ⌝ }
 {
     if waits(s, i) {
-        let o = order_of(recorded(s, i));
-        if shares_any(reached, o) {
-            add(reached, o);
+        let rec = recorded(s, i);
+        let o = order_of(rec);
+        if shares_any(reached, rec, o) {
+            add(reached, rec, o);
             return true;
         }
     }

@@ -1,4 +1,5 @@
 pub mod Slot
+pub mod Head
 pub mod Order
 pub mod Loop
 pub mod Checks

@@ -8,6 +8,7 @@ pub mod used;
 use crate::used::slots_formed;
 use buffer::number::four_at;
 use log_slots::HEAD;
+use log_slots::NEXT_AT;
 use log_slots::SLOT;
 
 // Whether n, b, m and the length are as document 01 has them: "n objects (2..256), b blocks a file (1..64) and m log slots
@@ -41,7 +42,7 @@ pub fn log_formed(s: &[u8], n: usize, b: usize, m: usize) -> bool
     ensures { λ r. ⌜ r ≡ formedLog n b m (now (s .entry)) ⌝ }
 {
     if is_lent(s, n, b, m) {
-        let next = four_at(s, 0);
+        let next = four_at(s, NEXT_AT);
         if 1 <= next {
             return slots_formed(&s[HEAD..], n, b, m, next);
         }

@@ -2,13 +2,15 @@
 ghost use mathlib.Core.Path.{_≡_};
 ghost use Prim.Native.Nat.{_≤_};
 ghost use lib.ListN.{length};
+ghost use Rattle.record_reader.specs.Code.Reader.{recordAt};
 ghost use Rattle.log.specs.Stored.{slotBytes};
-ghost use Rattle.log_form.specs.Code.Checks.{frontFormed, slotForm};
+ghost use Rattle.log_form.specs.Code.Checks.{frontFormed, formBy, slotForm};
 use buffer::number::byte_at;
 use buffer::number::four_at;
 use buffer::zero::all_zero;
 use log_slots::DEPENDENTS_AT;
 use log_slots::LOST;
+use log_slots::RECORD_END;
 use log_slots::RECORD_START;
 use log_slots::WAITING;
 use record_reader::Reading;
@@ -38,23 +40,33 @@ fn front_formed(e: &[u8]) -> bool
     false
 }
 
-// The form of a slot that is not free: its front, "a loss record" that fits n and b, and zeros.
+// The form of a slot, waiting or not, by its record's part: "a loss record" that fits n and b, and zeros.
+fn record_formed(part: &[u8], n: usize, b: usize, waits: bool) -> SlotForm
+    requires { ⌜ b ≤ 64 ⌝ }
+    ensures { λ r. ⌜ r ≡ formBy n b waits (now (part .entry)) (recordAt (now (part .entry)) 0) ⌝ }
+{
+    let Reading::Is(w) = read_record(part, 0) else {
+        return SlotForm::Bad;
+    };
+    if fits(part, w, n, b) {
+        let next = w.next;
+        if all_zero(&part[next..]) {
+            let head = w.head;
+            return SlotForm::Is(head.sequence, waits);
+        }
+    }
+    SlotForm::Bad
+}
+
+// The form of a slot that is not free: its front, and its record's part.
 pub fn slot_formed(e: &[u8], n: usize, b: usize) -> SlotForm
     requires { ⌜ b ≤ 64 ⌝ }
     requires { ⌜ length (now e) ≡ slotBytes ⌝ }
     ensures { λ r. ⌜ r ≡ slotForm n b (now (e .entry)) ⌝ }
 {
     if front_formed(e) {
-        let Reading::Is(w) = read_record(e, RECORD_START) else {
-            return SlotForm::Bad;
-        };
-        if fits(e, w, n, b) {
-            let next = w.next;
-            if all_zero(&e[next..]) {
-                let head = w.head;
-                return SlotForm::Is(head.sequence, byte_at(e, 0) == WAITING);
-            }
-        }
+        let waits = byte_at(e, 0) == WAITING;
+        return record_formed(&e[RECORD_START..RECORD_END], n, b, waits);
     }
     SlotForm::Bad
 }

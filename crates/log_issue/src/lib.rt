@@ -9,13 +9,10 @@ ghost use Rattle.log.specs.Stored.{readLog};
 ghost use Rattle.log.specs.Code.Slots.{Logged};
 ghost use Rattle.record_writer.specs.Code.Writer.{entryRecord, renameRecord, rangeRecord, lengthRecord, forderRecord};
 ghost use Rattle.log_draft.specs.Code.Issued.{Issuable, Waits, Issued, Kept, Room};
+use log_draft::Issuer;
+use log_draft::draft_of;
 use log_draft::issue;
 use log_draft::issue_log;
-use log_slots::HEAD;
-use log_slots::RECORD_START;
-use log_slots::SLOT;
-use log_slots::head::next_number;
-use log_slots::head::used;
 use record::kind::Kind;
 use record_writer::write_entry;
 use record_writer::write_forder;
@@ -31,7 +28,7 @@ pub fn issue_entry(
     b: usize,
     m: usize,
     kind: Kind,
-    program: usize,
+    by: Issuer,
     object: usize,
     parent: usize,
     name: &[u8],
@@ -40,24 +37,22 @@ pub fn issue_entry(
     requires { ⌜ Formed n b (now view) ⌝ }
     requires { ⌜ Room m (now log) ⌝ }
     requires { ⌜ mapOfKind kind ≡ mapOfKind Kind.CreateFile ⌝ }
-    requires { ⌜ Issuable n b (readVolume n b (now view)) (entryRecord kind (readLog m (now log) .next) program object parent (now name)) ⌝ }
-    ensures { λ x. ⌜ Issued n b m x (now (log .exit)) (now (view .exit)) (readVolume n b (now (view .entry))) (readLog m (now (log .entry))) (entryRecord kind (readLog m (now (log .entry)) .next) program object parent (now (name .entry))) ⌝ }
+    requires { ⌜ Issuable n b (readVolume n b (now view)) (entryRecord kind (readLog m (now log) .head .next) (by .program) object parent (now name)) ⌝ }
+    ensures { λ x. ⌜ Issued n b m x (now (log .exit)) (now (view .exit)) (readVolume n b (now (view .entry))) (readLog m (now (log .entry))) (entryRecord kind (readLog m (now (log .entry)) .head .next) (by .program) object parent (now (name .entry))) ⌝ }
 {
-    let used = used(log, m);
-    let next = next_number(log, m);
-    let at = HEAD + used * SLOT;
-    let start = at + RECORD_START;
-    let end = at + SLOT;
+    let d = draft_of(log, m, by);
+    let start = d.start;
+    let end = d.end;
     write_entry(
         &mut log[start..end],
         kind,
-        next,
-        program,
+        d.next,
+        by.program,
         object,
         parent,
         name,
     );
-    issue(log, view, n, b, m, used, program)
+    issue(log, view, n, b, m, d)
 }
 
 // Issues an operation of rename; 0 stands for no displaced object.
@@ -67,7 +62,7 @@ pub fn issue_rename(
     n: usize,
     b: usize,
     m: usize,
-    program: usize,
+    by: Issuer,
     object: usize,
     parent: usize,
     second: usize,
@@ -78,18 +73,16 @@ pub fn issue_rename(
     requires { ⌜ Logged n b m (now log) ⌝ }
     requires { ⌜ Formed n b (now view) ⌝ }
     requires { ⌜ Room m (now log) ⌝ }
-    requires { ⌜ Issuable n b (readVolume n b (now view)) (renameRecord (readLog m (now log) .next) program object parent second displaced (now name) (now «second_name»)) ⌝ }
-    ensures { λ x. ⌜ Issued n b m x (now (log .exit)) (now (view .exit)) (readVolume n b (now (view .entry))) (readLog m (now (log .entry))) (renameRecord (readLog m (now (log .entry)) .next) program object parent second displaced (now (name .entry)) (now («second_name» .entry))) ⌝ }
+    requires { ⌜ Issuable n b (readVolume n b (now view)) (renameRecord (readLog m (now log) .head .next) (by .program) object parent second displaced (now name) (now «second_name»)) ⌝ }
+    ensures { λ x. ⌜ Issued n b m x (now (log .exit)) (now (view .exit)) (readVolume n b (now (view .entry))) (readLog m (now (log .entry))) (renameRecord (readLog m (now (log .entry)) .head .next) (by .program) object parent second displaced (now (name .entry)) (now («second_name» .entry))) ⌝ }
 {
-    let used = used(log, m);
-    let next = next_number(log, m);
-    let at = HEAD + used * SLOT;
-    let start = at + RECORD_START;
-    let end = at + SLOT;
+    let d = draft_of(log, m, by);
+    let start = d.start;
+    let end = d.end;
     write_rename(
         &mut log[start..end],
-        next,
-        program,
+        d.next,
+        by.program,
         object,
         parent,
         second,
@@ -97,7 +90,7 @@ pub fn issue_rename(
         name,
         second_name,
     );
-    issue(log, view, n, b, m, used, program)
+    issue(log, view, n, b, m, d)
 }
 
 // Issues an operation of overwrite or append.
@@ -108,7 +101,7 @@ pub fn issue_range(
     b: usize,
     m: usize,
     kind: Kind,
-    program: usize,
+    by: Issuer,
     object: usize,
     offset: usize,
     content: &[u8],
@@ -117,24 +110,22 @@ pub fn issue_range(
     requires { ⌜ Formed n b (now view) ⌝ }
     requires { ⌜ Room m (now log) ⌝ }
     requires { ⌜ mapOfKind kind ≡ mapOfKind Kind.Overwrite ⌝ }
-    requires { ⌜ Issuable n b (readVolume n b (now view)) (rangeRecord kind (readLog m (now log) .next) program object offset (now content)) ⌝ }
-    ensures { λ x. ⌜ Issued n b m x (now (log .exit)) (now (view .exit)) (readVolume n b (now (view .entry))) (readLog m (now (log .entry))) (rangeRecord kind (readLog m (now (log .entry)) .next) program object offset (now (content .entry))) ⌝ }
+    requires { ⌜ Issuable n b (readVolume n b (now view)) (rangeRecord kind (readLog m (now log) .head .next) (by .program) object offset (now content)) ⌝ }
+    ensures { λ x. ⌜ Issued n b m x (now (log .exit)) (now (view .exit)) (readVolume n b (now (view .entry))) (readLog m (now (log .entry))) (rangeRecord kind (readLog m (now (log .entry)) .head .next) (by .program) object offset (now (content .entry))) ⌝ }
 {
-    let used = used(log, m);
-    let next = next_number(log, m);
-    let at = HEAD + used * SLOT;
-    let start = at + RECORD_START;
-    let end = at + SLOT;
+    let d = draft_of(log, m, by);
+    let start = d.start;
+    let end = d.end;
     write_range(
         &mut log[start..end],
         kind,
-        next,
-        program,
+        d.next,
+        by.program,
         object,
         offset,
         content,
     );
-    issue(log, view, n, b, m, used, program)
+    issue(log, view, n, b, m, d)
 }
 
 // Issues an operation of set length.
@@ -144,45 +135,34 @@ pub fn issue_length(
     n: usize,
     b: usize,
     m: usize,
-    program: usize,
+    by: Issuer,
     object: usize,
     length: usize,
 ) -> usize
     requires { ⌜ Logged n b m (now log) ⌝ }
     requires { ⌜ Formed n b (now view) ⌝ }
     requires { ⌜ Room m (now log) ⌝ }
-    requires { ⌜ Issuable n b (readVolume n b (now view)) (lengthRecord (readLog m (now log) .next) program object length) ⌝ }
-    ensures { λ x. ⌜ Issued n b m x (now (log .exit)) (now (view .exit)) (readVolume n b (now (view .entry))) (readLog m (now (log .entry))) (lengthRecord (readLog m (now (log .entry)) .next) program object length) ⌝ }
+    requires { ⌜ Issuable n b (readVolume n b (now view)) (lengthRecord (readLog m (now log) .head .next) (by .program) object length) ⌝ }
+    ensures { λ x. ⌜ Issued n b m x (now (log .exit)) (now (view .exit)) (readVolume n b (now (view .entry))) (readLog m (now (log .entry))) (lengthRecord (readLog m (now (log .entry)) .head .next) (by .program) object length) ⌝ }
 {
-    let used = used(log, m);
-    let next = next_number(log, m);
-    let at = HEAD + used * SLOT;
-    let start = at + RECORD_START;
-    let end = at + SLOT;
-    write_length(&mut log[start..end], next, program, object, length);
-    issue(log, view, n, b, m, used, program)
+    let d = draft_of(log, m, by);
+    let start = d.start;
+    let end = d.end;
+    write_length(&mut log[start..end], d.next, by.program, object, length);
+    issue(log, view, n, b, m, d)
 }
 
 // Issues an operation of forder, whose list is "lent as 2 bytes an object": "forder's change to the view is none".
-pub fn issue_forder(
-    log: &mut [u8],
-    n: usize,
-    b: usize,
-    m: usize,
-    program: usize,
-    list: &[u8],
-) -> usize
+pub fn issue_forder(log: &mut [u8], n: usize, b: usize, m: usize, by: Issuer, list: &[u8]) -> usize
     requires { ⌜ Logged n b m (now log) ⌝ }
     requires { ⌜ Room m (now log) ⌝ }
     requires { ⌜ length (now list) % 2 ≡ 0 ⌝ }
-    requires { ⌜ Kept n b (forderRecord (readLog m (now log) .next) program (now list)) ⌝ }
-    ensures { λ x. ⌜ Waits m x (now (log .exit)) (readLog m (now (log .entry))) (forderRecord (readLog m (now (log .entry)) .next) program (now (list .entry))) ⌝ }
+    requires { ⌜ Kept n b (forderRecord (readLog m (now log) .head .next) (by .program) (now list)) ⌝ }
+    ensures { λ x. ⌜ Waits m x (now (log .exit)) (readLog m (now (log .entry))) (forderRecord (readLog m (now (log .entry)) .head .next) (by .program) (now (list .entry))) ⌝ }
 {
-    let used = used(log, m);
-    let next = next_number(log, m);
-    let at = HEAD + used * SLOT;
-    let start = at + RECORD_START;
-    let end = at + SLOT;
-    write_forder(&mut log[start..end], next, program, list);
-    issue_log(log, n, b, m, used, program)
+    let d = draft_of(log, m, by);
+    let start = d.start;
+    let end = d.end;
+    write_forder(&mut log[start..end], d.next, by.program, list);
+    issue_log(log, n, b, m, d)
 }

@@ -2,8 +2,8 @@
 ghost use mathlib.Core.Path.{_≡_};
 ghost use Rattle.record_reader.specs.declared.Names.{Names};
 ghost use Rattle.log_operands.specs.Code.Ordering.{Ordering, Sized, Told};
-ghost use Rattle.log_operands.specs.Code.Reading.{plain, Limited, Few, Gathered, read};
-use buffer::span::stretch_of;
+ghost use Rattle.log_operands.specs.Code.Reading.{plain, Limited, read};
+use buffer::span::Span;
 use record::kind::Kind;
 use record_reader::Head;
 use record_reader::Headed;
@@ -12,34 +12,27 @@ use record_reader::Objects;
 use record_reader::Place;
 use record_reader::Range;
 use record_reader::RangeFields;
-use record_valid::list::object_of;
 use record_valid::valid::stands;
 
-// What the order of an operation goes by: its operands and, of an overwrite, where it writes.
+// What the order of an operation goes by: so many of fields 0 to 3 and the objects of a part of its record as operands and, of an
+// overwrite, where it writes.
 pub struct Order {
     pub count: usize,
-    pub list: [usize; 8],
+    pub objects: Objects,
+    pub listed: Span,
     pub overwrite: bool,
     pub offset: usize,
     pub len: usize,
 }
 
-// So many of fields 0 to 3, in their order, and no stretch.
-fn first(count: usize, objects: Objects) -> Order
-    ensures { λ r. ⌜ r ≡ plain count objects ⌝ }
+// So many of fields 0 to 3, in their order, the objects of a part of the record, and no stretch.
+fn first(count: usize, objects: Objects, listed: Span) -> Order
+    ensures { λ r. ⌜ r ≡ plain count objects listed ⌝ }
 {
     Order {
         count: count,
-        list: [
-            objects.object,
-            objects.parent,
-            objects.second,
-            objects.displaced,
-            0,
-            0,
-            0,
-            0,
-        ],
+        objects: objects,
+        listed: listed,
         overwrite: false,
         offset: 0,
         len: 0,
@@ -47,33 +40,18 @@ fn first(count: usize, objects: Objects) -> Order
 }
 
 // No operand: what is told where no valid record stands.
-fn nothing() -> Order
-    ensures { λ r. ⌜ Sized r ⌝ }
+fn nothing(rec: &[u8]) -> Order
+    ensures { λ r. ⌜ Sized (now (rec .entry)) r ⌝ }
 {
     Order {
         count: 0,
-        list: [0; 8],
-        overwrite: false,
-        offset: 0,
-        len: 0,
-    }
-}
-
-// The objects of a list of at most 8.
-fn gathered(list: &[u8]) -> Order
-    requires { ⌜ Few (now list) ⌝ }
-    ensures { λ r. ⌜ Gathered (now (list .entry)) r ⌝ }
-{
-    let count = list.len() / 2;
-    let mut objects = [0usize; 8];
-    let mut i = 0;
-    while i < count {
-        objects[i] = object_of(list, i);
-        i += 1;
-    }
-    Order {
-        count: count,
-        list: objects,
+        objects: Objects {
+            object: 0,
+            parent: 0,
+            second: 0,
+            displaced: 0,
+        },
+        listed: Span { start: 0, len: 0 },
         overwrite: false,
         offset: 0,
         len: 0,
@@ -83,35 +61,37 @@ fn gathered(list: &[u8]) -> Order
 // "Operands: the object and every parent, displaced or listed object." By the kind, of the fields that were read.
 fn order_from(rec: &[u8], head: Head, objects: Objects, range: Range) -> Order
     requires { ⌜ Limited (now rec) objects range ⌝ }
-    ensures told { λ r. ⌜ ((n : Names) → Ordering (read (now (rec .entry)) head objects n range) r) ⌝ }
-    ensures sized { λ r. ⌜ Sized r ⌝ }
+    ensures told { λ r. ⌜ ((n : Names) → Ordering (now (rec .entry)) (read (now (rec .entry)) head objects n range) r) ⌝ }
+    ensures sized { λ r. ⌜ Sized (now (rec .entry)) r ⌝ }
 {
+    let none = Span { start: 0, len: 0 };
     let kind = head.kind;
     match kind {
-        Kind::CreateFile => first(2, objects),
-        Kind::MakeDirectory => first(2, objects),
-        Kind::Remove => first(2, objects),
+        Kind::CreateFile => first(2, objects, none),
+        Kind::MakeDirectory => first(2, objects, none),
+        Kind::Remove => first(2, objects, none),
         Kind::Rename => {
             if stands(head.map, 8) {
-                return first(4, objects);
+                return first(4, objects, none);
             }
-            first(3, objects)
+            first(3, objects, none)
         },
         Kind::Overwrite => {
             let content = range.content;
             Order {
                 count: 1,
-                list: [objects.object, 0, 0, 0, 0, 0, 0, 0],
+                objects: objects,
+                listed: none,
                 overwrite: true,
                 offset: range.offset,
                 len: content.len,
             }
         },
-        Kind::Append => first(1, objects),
-        Kind::SetLength => first(1, objects),
+        Kind::Append => first(1, objects, none),
+        Kind::SetLength => first(1, objects, none),
         Kind::Forder => {
             let list = range.list;
-            gathered(stretch_of(rec, list.start, list.len))
+            first(0, objects, list)
         },
     }
 }
@@ -119,18 +99,18 @@ fn order_from(rec: &[u8], head: Head, objects: Objects, range: Range) -> Order
 // The operands of the record that a slice begins with. Names are not read: the kinds that have them have no fields 6 to 8.
 pub fn order_of(rec: &[u8]) -> Order
     ensures told { λ r. ⌜ Told (now (rec .entry)) r ⌝ }
-    ensures sized { λ r. ⌜ Sized r ⌝ }
+    ensures sized { λ r. ⌜ Sized (now (rec .entry)) r ⌝ }
 {
     let start = Place { at: 0 };
     let Headed::Is(head, p) = start.head(rec) else {
-        return nothing();
+        return nothing(rec);
     };
     let map = head.map;
     let ObjectFields::Are(objects, q) = p.objects(rec, map) else {
-        return nothing();
+        return nothing(rec);
     };
     let RangeFields::Are(range, t) = q.range(rec, map) else {
-        return nothing();
+        return nothing(rec);
     };
     order_from(rec, head, objects, range)
 }

@@ -1,2 +1,3 @@
 pub mod Precede
-pub mod Gather
+pub mod Close
+pub mod Turn

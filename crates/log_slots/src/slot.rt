@@ -9,6 +9,7 @@ ghost use Rattle.log.specs.Stored.{slotBytes, recordBytes, encodeSlot, encodeSl
 ghost use Rattle.log.specs.Code.Slots.{slotsIn, slotAt, Slotted};
 use crate::DEPENDENTS_AT;
 use crate::LOST;
+use crate::RECORD_END;
 use crate::RECORD_START;
 use crate::SLOT;
 use crate::WAITING;
@@ -34,7 +35,7 @@ pub fn recorded(s: &[u8], i: usize) -> &[u8]
     ensures { λ r. ⌜ (now r ≡ padded recordBytes (encode (slotAt (slotsIn (now (s .entry))) i .recorded))) × (length (now r) ≡ recordBytes) ⌝ }
 {
     let e = slot(s, i);
-    &e[RECORD_START..]
+    &e[RECORD_START..RECORD_END]
 }
 
 // Whether a slot's operation waits.

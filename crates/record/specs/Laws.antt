@@ -1,4 +1,5 @@
 pub mod Kind
+pub mod Operation
 pub mod List
 pub mod Record
 pub mod Decode

@@ -1,4 +1,5 @@
--- Document 01, "Loss record" and "Order and dependence": an operation with just its fields, its record, its operands.
+-- Document 01, "Loss record" and "Order and dependence": an operation with just its fields, its record, its operands,
+-- and where an overwrite writes.
 use Prim.Native.Nat.{ℕ}
 use mathlib.Core.List.{List, [], _∷_}
 use mathlib.Core.Option.{Option, none, some}
@@ -66,3 +67,18 @@ operands (overwrite o f b) = o ∷ []
 operands (append o f b) = o ∷ []
 operands (setLength o f) = o ∷ []
 operands (forder l) = l
+
+-- what an overwrite writes and where, for "two overwrites with a common byte"; none of any other operation
+pub record Stretch : Type 0 where
+  pub offset : ℕ
+  pub content : List ℕ
+
+abbrev pub overwriteOf : Operation → Option Stretch
+overwriteOf (createFile o p n) = none
+overwriteOf (makeDirectory o p n) = none
+overwriteOf (remove o p n) = none
+overwriteOf (rename o p q d n m) = none
+overwriteOf (overwrite o f b) = some (record { offset = f; content = b })
+overwriteOf (append o f b) = none
+overwriteOf (setLength o f) = none
+overwriteOf (forder l) = none

@@ -7,7 +7,7 @@ use mathlib.Core.Bool.{Bool, true, false}
 use mathlib.Core.Option.{some}
 use lib.ListN.{length, replicate}
 use Rattle.returned.specs.Returned
-use Rattle.record.specs.Operation.{Record, operands}
+use Rattle.record.specs.Operation.{Operation, Record, operands}
 use Rattle.record.specs.Fields.{member, encode, valid}
 use Rattle.record.specs.Decode.{decodeRecord}
 use Rattle.volume_tree.specs.Volume.{Volume}
@@ -18,10 +18,10 @@ use Rattle.log.specs.Order.{PrecedesIn, needed}
 use Rattle.log.specs.Change.{waitingOf, lossesOf}
 use Rattle.session.specs.Call.{Geometry, Buffers, Call, fsync, push, cut, take as takeLoss, Answer, resultCount, ownBuffer}
 use Rattle.session.specs.Model.{Model}
-use Rattle.session.specs.Issue.{alters}
+use Rattle.session.specs.Issue.{issues, alters}
 use Rattle.session.specs.Step.{Result, Stores, step, mount, decodeModel}
 use Rattle.register.specs.Replay.{replay}
-use Rattle.register.specs.Register.{Register, Acknowledged, isWaiting, isSent, isLost, sentIn, waitingIn, lostIn, viewOf, neededFor}
+use Rattle.register.specs.Register.{Register, Acknowledged, isWaiting, isSent, isLost, sentIn, waitingIn, lostIn, viewOf, neededFor, toldBy}
 use Rattle.register.specs.History.{Is, Precedes, Marked}
 use Rattle.register.specs.Run.{Moment, Run, Mounted, next, play, CouldHaveBeenSent}
 use Rattle.register.specs.Takes.{lostRecords, fetchedBy, Distinct}
@@ -73,10 +73,14 @@ pub record Adds (g : Geometry) (m : Moment) : Type 0 where
   pub added : next g (m .call) (m .before) .register .operations ≡ m .before .register .operations ++ (first ∷ others)
   pub told : m .answer .results ≡ first .recorded .sequence ∷ []
 
--- what a call answers: an accepted change or forder the number of the operation that the register adds, an accepted fsync how many it
--- needs, and an fsync that loses the link the k that it sends
+-- what a call answers: an accepted one that issues operations the number of the first that the register adds, and an accepted change or
+-- forder issues some; an accepted fsync how many it needs, and an fsync that loses the link the k that it sends
 pub record Answers (g : Geometry) (m : Moment) : Type 0 where
-  pub change : alters (m .call) ≡ true → m .answer .returned ≡ 0 → Adds g m
+  pub change :
+      (o : Operation) (os : List Operation) → issues (toldBy (m .before .register)) (m .call) ≡ o ∷ os → m .answer .returned ≡ 0 → Adds g m
+  pub issued :
+      alters (m .call) ≡ true → m .answer .returned ≡ 0
+      → (o : Operation) × (os : List Operation) × (issues (toldBy (m .before .register)) (m .call) ≡ o ∷ os)
   pub sync : (p o k : ℕ) → m .call ≡ fsync p o k → m .answer .returned ≡ 0 → m .answer .results ≡ length (neededFor o (m .before .register)) ∷ []
   pub link :
       (p o k : ℕ) → m .call ≡ fsync p o k → m .answer .returned ≡ Returned.linkLost
@@ -121,7 +125,7 @@ pub record Demand (g : Geometry) (v : Volume) (r : Run) : Type 0 where
   -- a program is marked in the log if and only if it depended on something discarded since mount or its last renewal
   pub marked :
       (x : Model) → decodeModel g (r .last .buffers) ≡ some x → (p : ℕ) → p < 32
-      → (holds (x .log .marks) p ≡ true) ↔ Marked (r .last .register) p
+      → (holds (x .log .head .marks) p ≡ true) ↔ Marked (r .last .register) p
   -- a program's takes fetch its losses in issue order, from the first on
   pub fetched : (p : ℕ) → (left : List (List ℕ)) × (lostRecords p (r .last .register) ≡ fetchedBy p (r .moments) ++ left)
   -- each once

@@ -26,7 +26,7 @@ roomRows g c x = roomFor g (x .log) (length (issues (toldOf x) c))
 
 -- a change is refused by its table, or "gives its sequence number"
 abbrev pub changed : Geometry → Call → ℕ → List Row → Model → Answer
-changed g c p rows x = unless c (programRows (x .log) p ++ (rows ++ roomRows g c x)) (answer Returned.accepted (x .log .next ∷ []) [])
+changed g c p rows x = unless c (programRows (x .log) p ++ (rows ++ roomRows g c x)) (answer Returned.accepted (x .log .head .next ∷ []) [])
 
 -- "Create and make directory take an unused object number from the caller."
 abbrev pub makeRows : Volume → ℕ → List ℕ → ℕ → List Row

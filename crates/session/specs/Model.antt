@@ -52,7 +52,7 @@ abbrev pub badProgram : ℕ → Row
 badProgram p = row Returned.badProgram (not (ltb p 32))
 
 abbrev pub isMarked : Log → ℕ → Row
-isMarked l p = row Returned.marked (holds (l .marks) p)
+isMarked l p = row Returned.marked (holds (l .head .marks) p)
 
 -- what is asked of the program of a call, but for take and renew
 abbrev pub programRows : Log → ℕ → List Row
@@ -85,7 +85,7 @@ abbrev pub noSlots : Geometry → Log → ℕ → Row
 noSlots g l k = row Returned.logFull (ltb (g .capacity) (length (l .slots) + k))
 
 abbrev pub noNumbers : Log → ℕ → Row
-noNumbers l k = row Returned.spent (ltb 4294967295 (l .next + k))
+noNumbers l k = row Returned.spent (ltb 4294967295 (l .head .next + k))
 
 -- room for so many operations
 abbrev pub roomFor : Geometry → Log → ℕ → List Row

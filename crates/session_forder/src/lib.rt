@@ -11,6 +11,7 @@ ghost use Rattle.session.specs.Call;
 ghost use Rattle.session.specs.Step.{given, step};
 ghost use Rattle.session.specs.Edit.{forderRows};
 ghost use Rattle.session.specs.Code.Table.{firstNumber};
+use log_draft::Issuer;
 use log_issue::issue_forder;
 use record_valid::list::good_list;
 use record_valid::list::list_below;
@@ -92,6 +93,7 @@ pub fn forder(
     if refused != ACCEPTED {
         return Value::refused(refused);
     }
-    let number = issue_forder(log, n, b, m, program, list);
+    let by = Issuer { program };
+    let number = issue_forder(log, n, b, m, by, list);
     Value::of(ACCEPTED, number)
 }

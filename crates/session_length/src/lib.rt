@@ -9,6 +9,7 @@ ghost use Rattle.session.specs.Step.{given, step};
 ghost use Rattle.session.specs.Edit.{lengthRows};
 ghost use Rattle.session.specs.Code.Table.{firstNumber};
 use buffer::BLOCK;
+use log_draft::Issuer;
 use log_issue::issue_length;
 use returned::ACCEPTED;
 use returned::BAD_RANGE;
@@ -55,6 +56,7 @@ pub fn set_length(
     if refused != ACCEPTED {
         return Value::refused(refused);
     }
-    let number = issue_length(log, view, n, b, m, program, object, length);
+    let by = Issuer { program };
+    let number = issue_length(log, view, n, b, m, by, object, length);
     Value::of(ACCEPTED, number)
 }

@@ -9,6 +9,7 @@ ghost use Rattle.session.specs.Edit.{makeRows};
 ghost use Rattle.session.specs.Step.{given, step};
 ghost use Rattle.session.specs.Code.Table.{firstNumber};
 ghost use Rattle.session_make.specs.Code.Make.{makeCall, makeKind};
+use log_draft::Issuer;
 use log_issue::issue_entry;
 use record::kind::Kind;
 use returned::ACCEPTED;
@@ -89,7 +90,8 @@ fn make(
         return Value::refused(refused);
     }
     let kind = kind_of(directory);
-    let next = issue_entry(log, view, n, b, m, kind, program, object, parent, name);
+    let by = Issuer { program };
+    let next = issue_entry(log, view, n, b, m, kind, by, object, parent, name);
     Value::of(ACCEPTED, next)
 }
 

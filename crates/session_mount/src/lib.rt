@@ -9,6 +9,7 @@ ghost use Rattle.log.specs.Stored.{logBytes, encodeLog};
 ghost use Rattle.session.specs.Call.{geometry, buffers, inRange, serverFits};
 ghost use Rattle.session.specs.Step.{given, format, formatLeaves, mount};
 use buffer::zero::clear;
+use log_slots::NEXT_AT;
 use returned::ACCEPTED;
 use returned::Code;
 use returned::DAMAGED;
@@ -37,7 +38,7 @@ fn begin_log(log: &mut [u8], m: usize)
     ensures { λ r. ⌜ now (log .exit) ≡ encodeLog m emptyLog ⌝ }
 {
     clear(log);
-    log[0] = 1;
+    log[NEXT_AT] = 1;
 }
 
 // Format: "1 Wrong buffer", or a volume with only a root, whatever the bytes were.

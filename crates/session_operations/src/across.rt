@@ -5,6 +5,7 @@ ghost use Rattle.volume_tree.specs.Stored.{readVolume};
 ghost use Rattle.log.specs.Stored.{readLog};
 ghost use Rattle.log_draft.specs.Code.Issued.{AllIssued};
 ghost use Rattle.session_change.specs.Code.Change.{MayIssue};
+use log_draft::Issuer;
 use log_issue::issue_range;
 use record::kind::Kind;
 
@@ -15,28 +16,17 @@ pub fn issue_across(
     n: usize,
     b: usize,
     m: usize,
-    program: usize,
+    by: Issuer,
     object: usize,
     offset: usize,
     old: &[u8],
     len: usize,
     new: &[u8],
 ) -> usize
-    requires { ⌜ MayIssue n b m program (now view) (now log) (Operation.overwrite object offset (now old) ∷ Operation.append object len (now new) ∷ []) ⌝ }
-    ensures { λ x. ⌜ AllIssued b m x (now (log .exit)) (now (view .exit)) (readVolume n b (now (view .entry))) (readLog m (now (log .entry))) program (Operation.overwrite object offset (now (old .entry)) ∷ Operation.append object len (now (new .entry)) ∷ []) ⌝ }
+    requires { ⌜ MayIssue n b m (by .program) (now view) (now log) (Operation.overwrite object offset (now old) ∷ Operation.append object len (now new) ∷ []) ⌝ }
+    ensures { λ x. ⌜ AllIssued b m x (now (log .exit)) (now (view .exit)) (readVolume n b (now (view .entry))) (readLog m (now (log .entry))) (by .program) (Operation.overwrite object offset (now (old .entry)) ∷ Operation.append object len (now (new .entry)) ∷ []) ⌝ }
 {
-    let first = issue_range(
-        log,
-        view,
-        n,
-        b,
-        m,
-        Kind::Overwrite,
-        program,
-        object,
-        offset,
-        old,
-    );
-    issue_range(log, view, n, b, m, Kind::Append, program, object, len, new);
+    let first = issue_range(log, view, n, b, m, Kind::Overwrite, by, object, offset, old);
+    issue_range(log, view, n, b, m, Kind::Append, by, object, len, new);
     first
 }

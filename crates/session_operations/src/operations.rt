@@ -9,6 +9,7 @@ ghost use Rattle.session.specs.Issue.{writesAt};
 ghost use Rattle.log_draft.specs.Code.Issued.{AllIssued};
 ghost use Rattle.session_change.specs.Code.Change.{MayIssue};
 use crate::across::issue_across;
+use log_draft::Issuer;
 use log_issue::issue_range;
 use record::kind::Kind;
 
@@ -35,18 +36,18 @@ pub fn issue_writes(
     n: usize,
     b: usize,
     m: usize,
-    program: usize,
+    by: Issuer,
     object: usize,
     len: usize,
     offset: usize,
     data: &[u8],
 ) -> usize
     requires { ⌜ 1 ≤ length (now «data») ⌝ }
-    requires { ⌜ MayIssue n b m program (now view) (now log) (writesAt len object offset (now «data»)) ⌝ }
-    ensures { λ x. ⌜ AllIssued b m x (now (log .exit)) (now (view .exit)) (readVolume n b (now (view .entry))) (readLog m (now (log .entry))) program (writesAt len object offset (now («data» .entry))) ⌝ }
+    requires { ⌜ MayIssue n b m (by .program) (now view) (now log) (writesAt len object offset (now «data»)) ⌝ }
+    ensures { λ x. ⌜ AllIssued b m x (now (log .exit)) (now (view .exit)) (readVolume n b (now (view .entry))) (readLog m (now (log .entry))) (by .program) (writesAt len object offset (now («data» .entry))) ⌝ }
 {
     if len <= offset {
-        return issue_range(log, view, n, b, m, Kind::Append, program, object, len, data);
+        return issue_range(log, view, n, b, m, Kind::Append, by, object, len, data);
     }
     let inside = len - offset;
     if data.len() <= inside {
@@ -57,7 +58,7 @@ pub fn issue_writes(
             b,
             m,
             Kind::Overwrite,
-            program,
+            by,
             object,
             offset,
             data,
@@ -65,5 +66,5 @@ pub fn issue_writes(
     }
     let old = &data[0..inside];
     let new = &data[inside..];
-    issue_across(log, view, n, b, m, program, object, offset, old, len, new)
+    issue_across(log, view, n, b, m, by, object, offset, old, len, new)
 }

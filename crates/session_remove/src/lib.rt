@@ -13,6 +13,7 @@ ghost use Rattle.session.specs.Step.{given, step};
 ghost use Rattle.session.specs.Code.Table.{firstNumber};
 ghost use Rattle.session_names.specs.Code.Rows.{Finds};
 ghost use Rattle.session_remove.specs.Code.Remove.{removeCall, removedKind, choiceRows};
+use log_draft::Issuer;
 use log_issue::issue_entry;
 use record::kind::Kind;
 use returned::ACCEPTED;
@@ -113,18 +114,8 @@ fn remove(
         return Value::refused(refused);
     }
     let object = sought.object;
-    let next = issue_entry(
-        log,
-        view,
-        n,
-        b,
-        m,
-        Kind::Remove,
-        program,
-        object,
-        parent,
-        name,
-    );
+    let by = Issuer { program };
+    let next = issue_entry(log, view, n, b, m, Kind::Remove, by, object, parent, name);
     Value::of(ACCEPTED, next)
 }
 

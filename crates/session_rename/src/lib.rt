@@ -16,6 +16,7 @@ ghost use Rattle.session.specs.Issue.{displaced};
 ghost use Rattle.session.specs.Step.{given, step};
 ghost use Rattle.session.specs.Code.Table.{firstNumber};
 ghost use Rattle.session_rename.specs.Code.Rename.{moveRows, Moves};
+use log_draft::Issuer;
 use log_issue::issue_rename;
 use returned::ACCEPTED;
 use returned::NOT_EMPTY;
@@ -172,13 +173,14 @@ pub fn rename(
     }
     let object = found.object;
     let displaced = found.displaced;
+    let by = Issuer { program };
     let next = issue_rename(
         log,
         view,
         n,
         b,
         m,
-        program,
+        by,
         object,
         parent,
         second_parent,

@@ -11,6 +11,7 @@ ghost use Rattle.session.specs.Edit.{badRange, writeRows};
 ghost use Rattle.session.specs.Code.Table.{firstNumber};
 use crate::file::length_of;
 use buffer::BLOCK;
+use log_draft::Issuer;
 use returned::ACCEPTED;
 use returned::BAD_RANGE;
 use returned::Value;
@@ -93,6 +94,7 @@ pub fn write(
     if refused != ACCEPTED {
         return Value::refused(refused);
     }
-    let number = issue_writes(log, view, n, b, m, program, object, len, offset, data);
+    let by = Issuer { program };
+    let number = issue_writes(log, view, n, b, m, by, object, len, offset, data);
     Value::of(ACCEPTED, number)
 }

@@ -6,7 +6,7 @@ ghost use Prim.Native.Nat.{_≤_, _<_};
 ghost use lib.ListN.{length, set};
 ghost use Rattle.names.specs.Name.{longestName};
 ghost use Rattle.record.specs.Fields.{displacedIf};
-ghost use Rattle.volume_entry.specs.Entry.{isUsed, renamed};
+ghost use Rattle.volume_entry.specs.Entry.{hasName, renamed};
 ghost use Rattle.volume_apply.specs.Apply.{withoutDisplaced, applies, apply};
 ghost use Rattle.volume_tree.specs.Stored.{encodeVolume, readVolume};
 ghost use Rattle.volume_tree.specs.Code.Lent.{Formed, entryIn};
@@ -28,7 +28,7 @@ use volume_write::write::set_file_length;
 // What a rename leaves: the displaced object gone, and the object under its second name and parent.
 fn apply_rename(s: &mut [u8], n: usize, b: usize, objects: Objects, displacing: bool, name: &[u8])
     requires { ⌜ Formed n b (now s) ⌝ }
-    requires { ⌜ (objects .object < n) × (isUsed (entryIn n b (now s) (objects .object)) ≡ true) × (length (now name) ≤ longestName) ⌝ }
+    requires { ⌜ (objects .object < n) × (hasName (entryIn n b (now s) (objects .object)) ≡ true) × (length (now name) ≤ longestName) ⌝ }
     requires { ⌜ Displaces n b (readVolume n b (now s)) (objects .object) (displacedIf displacing (objects .displaced)) ⌝ }
     ensures { λ r. ⌜ now (s .exit)
         ≡ encodeVolume b (set (withoutDisplaced (readVolume n b (now (s .entry))) (displacedIf displacing (objects .displaced))) (objects .object) (renamed (entryIn n b (now (s .entry)) (objects .object)) (now (name .entry)) (objects .second))) ⌝ }

@@ -12,10 +12,10 @@ use record::kind::Kind;
 use record_reader::Objects;
 use record_reader::Whole;
 use record_valid::valid::stands;
-use volume_entry::FREE;
 use volume_entry::field::contents;
 use volume_entry::field::is_directory;
 use volume_entry::field::is_file;
+use volume_entry::field::is_used;
 use volume_entry::field::kind;
 use volume_tree::entries::entry;
 use volume_tree::search::Found;
@@ -46,7 +46,7 @@ fn has_room(s: &[u8], n: usize, b: usize, o: usize, p: usize, name: &[u8]) -> bo
     if is_directory(entry(s, n, b, p)) {
         return match search(s, n, b, p, name) {
             Found::At(i) => false,
-            Found::Nothing => kind(entry(s, n, b, o)) == FREE,
+            Found::Nothing => !is_used(entry(s, n, b, o)),
         };
     }
     false

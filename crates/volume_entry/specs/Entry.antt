@@ -53,6 +53,12 @@ isDirectory free = false
 isDirectory (file n p c) = false
 isDirectory (directory n p) = true
 
+-- whether an entry has a name to be found by: "Every other used entry has a valid name"; entry 0 is asked apart
+abbrev pub hasName : Entry → Bool
+hasName free = false
+hasName (file n p c) = true
+hasName (directory n p) = true
+
 -- the entry under another name and parent
 abbrev pub renamed : Entry → List ℕ → ℕ → Entry
 renamed free n p = free

@@ -2,7 +2,7 @@
 ghost use mathlib.Core.Path.{_≡_};
 ghost use Prim.Native.Nat.{_≤_, _<_};
 ghost use lib.ListN.{length};
-ghost use Rattle.volume_entry.specs.Entry.{kindNumber, nameOf, parentOf, contentsOf, isUsed, isFile, isDirectory, usage};
+ghost use Rattle.volume_entry.specs.Entry.{kindNumber, nameOf, parentOf, contentsOf, isUsed, isFile, isDirectory, hasName, usage};
 ghost use Rattle.volume_entry.specs.Stored.{readEntry, dataAt};
 use crate::DATA_AT;
 use crate::DIRECTORY;
@@ -47,23 +47,31 @@ pub fn is_directory(e: &[u8]) -> bool
     kind(e) == DIRECTORY
 }
 
-// The parent's number; 0 of a free entry.
+// Whether an entry has a name to be found by: "Every other used entry has a valid name".
+pub fn has_name(e: &[u8]) -> bool
+    requires { ⌜ dataAt ≤ length (now e) ⌝ }
+    ensures { λ r. ⌜ r ≡ hasName (readEntry (now (e .entry))) ⌝ }
+{
+    kind(e) != FREE
+}
+
+// The parent's number; 0 of an entry without a name.
 pub fn parent(e: &[u8]) -> usize
     requires { ⌜ dataAt ≤ length (now e) ⌝ }
     ensures { λ r. ⌜ (r ≡ parentOf (readEntry (now (e .entry)))) × (r < 65536) ⌝ }
 {
-    if is_used(e) {
+    if has_name(e) {
         return two_at(e, 2);
     }
     0
 }
 
-// The name, as a part of the entry; empty of a free entry.
+// The name, as a part of the entry; empty of an entry without one.
 pub fn name(e: &[u8]) -> &[u8]
     requires { ⌜ dataAt ≤ length (now e) ⌝ }
     ensures { λ r. ⌜ now r ≡ nameOf (readEntry (now (e .entry))) ⌝ }
 {
-    if is_used(e) {
+    if has_name(e) {
         return stretch_of(e, 4, byte_at(e, 1));
     }
     &e[..0]

@@ -5,12 +5,12 @@ ghost use Rattle.volume_tree.specs.Stored.{readVolume};
 ghost use Rattle.volume_tree.specs.Code.Lent.{Lent};
 ghost use Rattle.volume_unique.specs.Code.Checks.{Gathered};
 ghost use Rattle.volume_form.specs.Code.Checks.{Numbers, parented, parentsFormed, climbsBy, allLead};
+use volume_entry::field::has_name;
 use volume_entry::field::is_directory;
-use volume_entry::field::is_used;
 use volume_entry::field::parent;
 use volume_tree::entries::entry;
 
-// Whether an entry other than the root is free or has a used directory as parent.
+// Whether an entry is the root, has no name, or has a used directory as parent.
 fn is_parented(s: &[u8], n: usize, b: usize, i: usize) -> bool
     requires { ⌜ Lent n b (now s) ⌝ }
     requires { ⌜ i < n ⌝ }
@@ -20,7 +20,7 @@ fn is_parented(s: &[u8], n: usize, b: usize, i: usize) -> bool
         return true;
     }
     let e = entry(s, n, b, i);
-    if is_used(e) {
+    if has_name(e) {
         let p = parent(e);
         if p < n {
             return is_directory(entry(s, n, b, p));
@@ -30,7 +30,7 @@ fn is_parented(s: &[u8], n: usize, b: usize, i: usize) -> bool
     true
 }
 
-// Whether every entry other than the root is free or has a used directory as parent.
+// Whether every entry with a name, other than the root, has a used directory as parent.
 pub fn parents_formed(s: &[u8], n: usize, b: usize) -> bool
     requires { ⌜ Lent n b (now s) ⌝ }
     ensures { λ r. ⌜ r ≡ parentsFormed (readVolume n b (now (s .entry))) ⌝ }

@@ -6,7 +6,7 @@ use lib.ListN.{length, take, drop}
 use lib.Dec.{ltb}
 use Rattle.returned.specs.Returned
 use Rattle.buffer.specs.Patch.{patch}
-use Rattle.volume_entry.specs.Entry.{Entry, free, file, directory, kindNumber, contentsOf, usage}
+use Rattle.volume_entry.specs.Entry.{Entry, isUsed, isFile, kindNumber, contentsOf, usage}
 use Rattle.volume_tree.specs.Volume.{Volume, entryAt}
 use Rattle.volume_questions.specs.Listing.{listing}
 use Rattle.volume_questions.specs.declared.object.Object.{Object}
@@ -20,9 +20,7 @@ use Rattle.volume_questions.specs.declared.listing.Listed.the-variants.{
 
 -- "7 Bad number: object n or more", "8 No object: entry free"
 abbrev pub objectOf : Entry → Object
-objectOf free = Free
-objectOf (file n p c) = File
-objectOf (directory n p) = Directory
+objectOf e = cond (isUsed e) (cond (isFile e) File Directory) Free
 
 unfoldable pub objectAnswer : Volume → ℕ → Object
 objectAnswer v o = cond (ltb o (length v)) (objectOf (entryAt v o)) BadNumber

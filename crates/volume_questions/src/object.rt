@@ -3,9 +3,9 @@ ghost use mathlib.Core.Path.{_≡_};
 ghost use Rattle.volume_tree.specs.Stored.{readVolume};
 ghost use Rattle.volume_tree.specs.Code.Lent.{Lent};
 ghost use Rattle.volume_questions.specs.Answer.{objectAnswer, statAnswer};
-use volume_entry::FILE;
-use volume_entry::FREE;
 use volume_entry::field::contents;
+use volume_entry::field::is_file;
+use volume_entry::field::is_used;
 use volume_entry::field::kind;
 use volume_entry::field::usage_of;
 use volume_tree::entries::entry;
@@ -33,14 +33,14 @@ pub fn object_at(s: &[u8], n: usize, b: usize, o: usize) -> Object
     if n <= o {
         return Object::BadNumber;
     }
-    let code = kind(entry(s, n, b, o));
-    if code == FREE {
-        return Object::Free;
+    let e = entry(s, n, b, o);
+    if is_used(e) {
+        if is_file(e) {
+            return Object::File;
+        }
+        return Object::Directory;
     }
-    if code == FILE {
-        return Object::File;
-    }
-    Object::Directory
+    Object::Free
 }
 
 // "stat (kind, length, usage)".
@@ -52,10 +52,10 @@ pub fn stat_of(s: &[u8], n: usize, b: usize, o: usize) -> Stat
         return Stat::BadNumber;
     }
     let e = entry(s, n, b, o);
-    let code = kind(e);
-    if code == FREE {
-        return Stat::NoObject;
+    if is_used(e) {
+        let len = contents(e).len();
+        let code = kind(e);
+        return Stat::Is(code, len, usage_of(len));
     }
-    let len = contents(e).len();
-    Stat::Is(code, len, usage_of(len))
+    Stat::NoObject
 }

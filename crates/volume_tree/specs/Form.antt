@@ -1,11 +1,11 @@
 -- Document 01, "Geometry and stored form": a well-formed volume.
 use Prim.Native.Nat.{ℕ, zero, suc, _*_}
-use mathlib.Core.Bool.{Bool, true, not, _&&_, _||_}
+use mathlib.Core.Bool.{Bool, not, _&&_, _||_}
 use lib.ListN.{length}
 use lib.Dec.{leb, eqb}
 use Rattle.buffer.specs.Geometry.{blockBytes}
 use Rattle.names.specs.Name.{validName, sameName}
-use Rattle.volume_entry.specs.Entry.{Entry, free, file, directory, root, isDirectory, nameOf, parentOf}
+use Rattle.volume_entry.specs.Entry.{Entry, root, isDirectory, hasName, nameOf, parentOf, contentsOf}
 use Rattle.volume_entry.specs.Stored.{sameEntry}
 use Rattle.volume_tree.specs.Volume.{Volume, entryAt, every, isChild}
 
@@ -18,12 +18,13 @@ climbs (suc k) v i = eqb i 0 || climbs k v (parentOf (entryAt v i))
 abbrev pub isRoot : Entry → Bool
 isRoot e = sameEntry e root
 
--- "Every other used entry has a valid name and a used directory as parent, the parents lead to 0"; a file's length is at
--- most 1,024 × b
+-- "Every other used entry has a valid name and a used directory as parent, the parents lead to 0"
+abbrev pub inTree : Volume → ℕ → Entry → Bool
+inTree v i e = validName (nameOf e) && (isDirectory (entryAt v (parentOf e)) && climbs (length v) v i)
+
+-- an entry other than the root: a length of at most 1,024 × b, and where it has a name, its place among the others
 unfoldable pub placed : ℕ → Volume → ℕ → Entry → Bool
-placed b v i free = true
-placed b v i (file n p c) = validName n && (isDirectory (entryAt v p) && (climbs (length v) v i && leb (length c) (blockBytes * b)))
-placed b v i (directory n p) = validName n && (isDirectory (entryAt v p) && climbs (length v) v i)
+placed b v i e = leb (length (contentsOf e)) (blockBytes * b) && (not (hasName e) || inTree v i e)
 
 -- two entries that share parent and name
 abbrev pub twins : Volume → ℕ → ℕ → Bool

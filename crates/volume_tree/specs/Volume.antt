@@ -6,7 +6,7 @@ use mathlib.Core.Option.{Option, none, some}
 use lib.ListN.{length, getD, replicate}
 use lib.Dec.{eqb}
 use Rattle.names.specs.Name.{sameName}
-use Rattle.volume_entry.specs.Entry.{Entry, free, root, isUsed, nameOf, parentOf}
+use Rattle.volume_entry.specs.Entry.{Entry, free, root, hasName, nameOf, parentOf}
 
 abbrev pub Volume : Type 0
 Volume = List Entry
@@ -29,9 +29,9 @@ lowest (suc k) f = after (lowest k f)
     after (some i) = some i
     after none = cond (f k) (some k) none
 
--- "Entry 0 is nobody's child."
+-- what has a name is a child of its parent: "Entry 0 is nobody's child."
 abbrev pub isChild : Volume → ℕ → ℕ → Bool
-isChild v d i = not (eqb i 0) && (isUsed (entryAt v i) && eqb (parentOf (entryAt v i)) d)
+isChild v d i = not (eqb i 0) && (hasName (entryAt v i) && eqb (parentOf (entryAt v i)) d)
 
 -- the child of a directory with a name
 abbrev pub isNamed : Volume → ℕ → List ℕ → ℕ → Bool

@@ -7,7 +7,7 @@ ghost use Rattle.volume_tree.specs.Code.Lent.{Lent};
 ghost use Rattle.volume_tree.specs.Answer.{foundOf};
 use crate::entries::entry;
 use names::same_name;
-use volume_entry::field::is_used;
+use volume_entry::field::has_name;
 use volume_entry::field::name;
 use volume_entry::field::parent;
 
@@ -27,7 +27,7 @@ pub fn is_child(s: &[u8], n: usize, b: usize, d: usize, i: usize) -> bool
         return false;
     }
     let e = entry(s, n, b, i);
-    if is_used(e) {
+    if has_name(e) {
         return parent(e) == d;
     }
     false

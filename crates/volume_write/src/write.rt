@@ -8,7 +8,7 @@ ghost use Rattle.names.specs.Name.{longestName};
 ghost use Rattle.buffer.specs.Geometry.{blockBytes};
 ghost use Rattle.buffer.specs.Numeral.{bytes};
 ghost use Rattle.buffer.specs.Patch.{patch};
-ghost use Rattle.volume_entry.specs.Entry.{free, isUsed, isFile, contentsOf, renamed, refilled};
+ghost use Rattle.volume_entry.specs.Entry.{free, isFile, hasName, contentsOf, renamed, refilled};
 ghost use Rattle.volume_entry.specs.Stored.{entryBytes, entryOf, lengthAt, dataAt};
 ghost use Rattle.volume_entry.specs.Write.{headField, resized};
 ghost use Rattle.volume_tree.specs.Code.Lent.{Lent, Formed, entryIn, withEntry};
@@ -101,10 +101,10 @@ pub fn free_entry(s: &mut [u8], n: usize, b: usize, i: usize)
     clear(&mut s[at..end]);
 }
 
-// Gives a used entry another name and parent.
+// Gives an entry with a name another name and parent.
 pub fn rename_entry(s: &mut [u8], n: usize, b: usize, i: usize, parent: usize, name: &[u8])
     requires { ⌜ Formed n b (now s) ⌝ }
-    requires { ⌜ (i < n) × (isUsed (entryIn n b (now s) i) ≡ true) × (length (now name) ≤ longestName) ⌝ }
+    requires { ⌜ (i < n) × (hasName (entryIn n b (now s) i) ≡ true) × (length (now name) ≤ longestName) ⌝ }
     ensures { λ r. ⌜ now (s .exit) ≡ withEntry n b (now (s .entry)) i (renamed (entryIn n b (now (s .entry)) i) (now (name .entry)) parent) ⌝ }
 {
     let code = kind(entry(s, n, b, i));

@@ -40,7 +40,7 @@ pub data Question : Type 0 where
 unfoldable pub answerTo : Question → List (List ℕ)
 answerTo (orderOf os) = order (numberedFrom 1 os)
 answerTo (sendsFor o os) = sequences (needed o (numberedFrom 1 os)) ∷ []
-answerTo (cutOf l) = sequences (waitingOf (discard l .slots)) ∷ (discard l .marks ∷ []) ∷ []
+answerTo (cutOf l) = sequences (waitingOf (discard l .slots)) ∷ (discard l .head .marks ∷ []) ∷ []
 
 pub record Row : Type 0 where
   pub asked : Question
@@ -66,8 +66,7 @@ renames =
 abbrev pub waitingLog : Log
 waitingLog =
     record {
-      next = 4;
-      marks = 2;
+      head = record { next = 4; marks = 2 };
       slots =
           record { state = lost; dependents = 0; recorded = record { sequence = 1; program = 1; operation = over 0 4 } }
           ∷ record { state = waiting; dependents = 5; recorded = record { sequence = 2; program = 0; operation = over 0 4 } }

@@ -2,14 +2,12 @@
 use Prim.Native.Nat.{ℕ}
 use mathlib.Core.Path.{_≡_}
 use mathlib.Core.List.{List, [], _∷_}
-use mathlib.Core.Bool.{Bool, true, _&&_, cond}
+use mathlib.Core.Bool.{Bool, true, cond}
 use lib.ListN.{getD}
 use lib.Dec.{eqb}
-use Rattle.record.specs.Operation.{Record, operands}
+use Rattle.record.specs.Operation.{Record}
 use Rattle.record.specs.Fields.{member}
 use Rattle.log.specs.Slot.{Slot, isWaiting}
-use Rattle.log.specs.Order.{shares}
-use Rattle.log.specs.Depend.{reach}
 
 -- a position is in a set
 abbrev pub stands : List ℕ → ℕ → Bool
@@ -36,8 +34,3 @@ abbrev pub AllWait : List ℕ → List Slot → Type 0
 AllWait [] l = Unit {0}
 AllWait (f ∷ fs) [] = Unit {0}
 AllWait (f ∷ fs) (s ∷ l) = (eqb f 1 ≡ true → isWaiting s ≡ true) × AllWait fs l
-
--- the set of the waiting slots that a call with given operands reaches
-unfoldable pub reached : List ℕ → List Slot → List ℕ
-reached ops [] = []
-reached ops (s ∷ l) = cond (isWaiting s && shares (operands (s .recorded .operation)) (reach ops l)) 1 0 ∷ reached ops l

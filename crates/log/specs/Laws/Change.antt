@@ -12,13 +12,13 @@ use borrow.Author.Tests.{ltb-true, lt-ltb, eqb-true, eq-eqb, ne-eqb, not-true}
 use Rattle.buffer.specs.Laws.Test.{or-left}
 use Rattle.record.specs.Operation.{Operation, Record, operands}
 use Rattle.record.specs.Fields.{valid, fits}
-use Rattle.log.specs.Programs.{holds, with}
+use Rattle.log.specs.Programs.{without, union, holds, with}
 use Rattle.log.specs.Slot.{State, waiting, lost, stateNumber, Slot, withState, withDependents, Log, withSlots, isWaiting, sequenceOf, goodSlots, follows, rising, wellFormedLog}
 use Rattle.log.specs.Order.{shares, any}
 use Rattle.log.specs.Depend.{reach, noted}
 use Rattle.log.specs.Change.{waitingOf, note, waitingSlot, issue, removed, isSequence, sent, discarded, dependentsOf, discard, isLossOf, earliest, taken, renewed, waitingAt}
 use Rattle.log.specs.Laws.Program.{with-below, without-below, union-below, holds-without, holds-union, holds-none}
-use Rattle.log.specs.Laws.Slot.{and-both, GoodSlot, slots-inv, slots-of, formed-inv, formed-of}
+use Rattle.log.specs.Laws.Slot.{next-good, marks-good, and-both, GoodSlot, slots-inv, slots-of, formed-inv, formed-of}
 use Rattle.log.specs.Laws.Order.{InOrder}
 
 then-inv : (a b : Bool) → (not a || b) ≡ true → a ≡ true → b ≡ true
@@ -68,11 +68,15 @@ rising-of next (s ∷ t ∷ l) o =
 
 -- no slot waits after a cut, and each keeps its loss
 pub discarded-lost : (s : Slot) → (discarded s .state ≡ lost) × (discarded s .recorded ≡ s .recorded)
-discarded-lost s = on (s .state) (s .dependents) (s .recorded)
+discarded-lost s = on (isWaiting s) refl
   where
-    on : (t : State) (d : ℕ) (r : Record) → (discarded (record { state = t; dependents = d; recorded = r }) .state ≡ lost) × (discarded (record { state = t; dependents = d; recorded = r }) .recorded ≡ r)
-    on waiting d r = (refl, refl)
-    on lost d r = (refl, refl)
+    is-lost : (t : State) → eqb (stateNumber t) 1 ≡ false → t ≡ lost
+    is-lost waiting e = absurd (false≢true (sym e))
+    is-lost lost e = refl
+
+    on : (b : Bool) → isWaiting s ≡ b → (cond b (withState lost (withDependents 0 s)) s .state ≡ lost) × (cond b (withState lost (withDependents 0 s)) s .recorded ≡ s .recorded)
+    on true e = (refl, refl)
+    on false e = (is-lost (s .state) e, refl)
 
 -- "Cut turns all waiting ones into lost ones": none waits
 pub discard-waiting : (l : Log) → waitingOf (discard l .slots) ≡ []
@@ -158,12 +162,10 @@ note-good n b m p ops l h w =
     let c = f .count in
     formed-of n b m (note p ops l)
     (record {
-      from-one = f .from-one;
-      in-four = f .in-four;
-      marks-small = f .marks-small;
+      head = f .head;
       count = omega arith;
       good = noted-good n b p ops (l .slots) h (f .good);
-      order = noted-rising (l .next) p ops (l .slots) ∙ f .order;
+      order = noted-rising (l .head .next) p ops (l .slots) ∙ f .order;
     })
 
 -- what waits in slots behind others waits behind what waits in those
@@ -177,9 +179,9 @@ waiting-append (s ∷ u) v = rw (waiting-append u v) (go (isWaiting s))
     go false = refl
 
 -- the operation that a call issues waits last
-pub issue-waiting : (p : ℕ) (o : Operation) (l : Log) → waitingOf (issue p o l .slots) ≡ waitingOf (l .slots) ++ (record { sequence = l .next; program = p; operation = o } ∷ [])
+pub issue-waiting : (p : ℕ) (o : Operation) (l : Log) → waitingOf (issue p o l .slots) ≡ waitingOf (l .slots) ++ (record { sequence = l .head .next; program = p; operation = o } ∷ [])
 unfolding issue waitingOf
-issue-waiting p o l = waiting-append (l .slots) (waitingSlot (record { sequence = l .next; program = p; operation = o }) ∷ [])
+issue-waiting p o l = waiting-append (l .slots) (waitingSlot (record { sequence = l .head .next; program = p; operation = o }) ∷ [])
 
 good-append : (n b : ℕ) (l : List Slot) (s : Slot) → goodSlots n b l ≡ true → GoodSlot n b s → goodSlots n b (l ++ (s ∷ [])) ≡ true
 unfolding goodSlots
@@ -200,22 +202,20 @@ rising-append next (t ∷ u ∷ l) s h e w =
     and-both (follows t u) (rising (next + 1) (u ∷ (l ++ (s ∷ [])))) (g .0) (rising-append next (u ∷ l) s (g .1) e w)
 
 -- "takes one sequence number and waits": with a free slot and a number left, the log stays well formed
-pub issue-good : (n b m p : ℕ) (o : Operation) (l : Log) → p < 32 → wellFormedLog n b m l ≡ true → length (l .slots) < m → l .next < 4294967295
-    → valid (record { sequence = l .next; program = p; operation = o }) ≡ true → fits n b (record { sequence = l .next; program = p; operation = o }) ≡ true
+pub issue-good : (n b m p : ℕ) (o : Operation) (l : Log) → p < 32 → wellFormedLog n b m l ≡ true → length (l .slots) < m → l .head .next < 4294967295
+    → valid (record { sequence = l .head .next; program = p; operation = o }) ≡ true → fits n b (record { sequence = l .head .next; program = p; operation = o }) ≡ true
     → wellFormedLog n b m (issue p o l) ≡ true
 unfolding issue
 issue-good n b m p o l h w c x v t =
     let f = formed-inv n b m l w in
-    let s = waitingSlot (record { sequence = l .next; program = p; operation = o }) in
+    let s = waitingSlot (record { sequence = l .head .next; program = p; operation = o }) in
     let a = length-append (l .slots) (s ∷ []) in
     formed-of n b m (issue p o l)
     (record {
-      from-one = omega arith;
-      in-four = omega arith;
-      marks-small = f .marks-small;
+      head = next-good (l .head .next + 1) l (omega arith) (omega arith) (f .head);
       count = omega arith;
       good = good-append n b (l .slots) s (f .good) (record { sound = v; fit = t; small = with-below 0 p (omega arith) h; none-if-lost = refl });
-      order = rising-append (l .next) (l .slots) s (f .order) refl refl;
+      order = rising-append (l .head .next) (l .slots) s (f .order) refl refl;
     })
 
 -- where the earliest slot that passes a test stands, what it holds, and what its removal leaves
@@ -317,12 +317,10 @@ removed-formed n b m f l w =
     let c = g .count in
     formed-of n b m (withSlots (removed f (l .slots)) l)
     (record {
-      from-one = g .from-one;
-      in-four = g .in-four;
-      marks-small = g .marks-small;
+      head = g .head;
       count = omega arith;
       good = removed-good n b f (l .slots) (g .good);
-      order = rising-of (l .next) (removed f (l .slots)) (removed-ordered (l .next) f (l .slots) (rising-inv (l .next) (l .slots) (g .order)));
+      order = rising-of (l .head .next) (removed f (l .slots)) (removed-ordered (l .head .next) f (l .slots) (rising-inv (l .head .next) (l .slots) (g .order)));
     })
 
 -- a push keeps the log well formed
@@ -334,8 +332,8 @@ pub taken-good : (n b m p : ℕ) (l : Log) → wellFormedLog n b m l ≡ true �
 taken-good n b m p l w = removed-formed n b m (isLossOf p) l w
 
 -- "Renew clears its mark", and no other
-pub renewed-marks : (p q : ℕ) (l : Log) → holds (renewed p l .marks) q ≡ (not (eqb p q) && holds (l .marks) q)
-renewed-marks p q l = holds-without (l .marks) p q
+pub renewed-marks : (p q : ℕ) (l : Log) → holds (renewed p l .head .marks) q ≡ (not (eqb p q) && holds (l .head .marks) q)
+renewed-marks p q l = holds-without (l .head .marks) p q
 
 -- a renew keeps the log well formed
 pub renewed-good : (n b m p : ℕ) (l : Log) → wellFormedLog n b m l ≡ true → wellFormedLog n b m (renewed p l) ≡ true
@@ -343,9 +341,7 @@ renewed-good n b m p l w =
     let g = formed-inv n b m l w in
     formed-of n b m (renewed p l)
     (record {
-      from-one = g .from-one;
-      in-four = g .in-four;
-      marks-small = without-below (l .marks) p (g .marks-small);
+      head = marks-good (without (l .head .marks) p) l (without-below (l .head .marks) p (g .head .marks-small)) (g .head);
       count = g .count;
       good = g .good;
       order = g .order;
@@ -385,12 +381,10 @@ discard-good n b m l w =
     let c = g .count in
     formed-of n b m (discard l)
     (record {
-      from-one = g .from-one;
-      in-four = g .in-four;
-      marks-small = union-below (l .marks) _;
+      head = marks-good (union (l .head .marks) (dependentsOf (l .slots))) l (union-below (l .head .marks) _) (g .head);
       count = omega arith;
       good = all-discarded-good n b (l .slots) (g .good);
-      order = discarded-rising (l .next) (l .slots) (g .order);
+      order = discarded-rising (l .head .next) (l .slots) (g .order);
     })
 
 -- a cut keeps all losses, those that waited with those that were lost
@@ -414,9 +408,9 @@ holds-dependents (s ∷ l) p h =
     one false d = holds-none p
 
 -- "marks the dependents": a cut marks exactly those programs besides
-pub discard-marks : (l : Log) (p : ℕ) → p < 32 → holds (discard l .marks) p ≡ (holds (l .marks) p || any (dependsOn p) (l .slots))
+pub discard-marks : (l : Log) (p : ℕ) → p < 32 → holds (discard l .head .marks) p ≡ (holds (l .head .marks) p || any (dependsOn p) (l .slots))
 unfolding discard
-discard-marks l p h = holds-union (l .marks) (dependentsOf (l .slots)) p h ∙ (λ i. holds (l .marks) p || holds-dependents (l .slots) p h i)
+discard-marks l p h = holds-union (l .head .marks) (dependentsOf (l .slots)) p h ∙ (λ i. holds (l .head .marks) p || holds-dependents (l .slots) p h i)
 
 -- what waits stands in a waiting slot
 pub waiting-in : (l : List Slot) {r : Record} → List·Memᴰ r (waitingOf l) → (s : Slot) × List·Memᴰ s l × (isWaiting s ≡ true) × (r ≡ s .recorded)
@@ -458,7 +452,7 @@ ordered-waiting next (s ∷ l) o = go (isWaiting s) (ordered-waiting next l (o .
 
 -- the waiting operations of a well-formed log are in order
 pub waiting-in-order : (n b m : ℕ) (l : Log) → wellFormedLog n b m l ≡ true → InOrder (waitingOf (l .slots))
-waiting-in-order n b m l w = ordered-waiting (l .next) (l .slots) (rising-inv (l .next) (l .slots) (formed-inv n b m l w .order))
+waiting-in-order n b m l w = ordered-waiting (l .head .next) (l .slots) (rising-inv (l .head .next) (l .slots) (formed-inv n b m l w .order))
 
 ordered-below : (next : ℕ) (l : List Slot) → Ordered next l → {s : Slot} → List·Memᴰ s l → sequenceOf s < next
 ordered-below next (t ∷ l) o (List·Memᴰ·head e) = let k = o .0 in let z = ap sequenceOf e in omega arith
@@ -532,5 +526,5 @@ pub waiting-at : (n b m : ℕ) (l : Log) → wellFormedLog n b m l ≡ true → 
 unfolding waitingAt
 waiting-at n b m l w {r} k =
     let u = waiting-in (l .slots) k in
-    let e = earliest-at (l .next) (l .slots) (rising-inv (l .next) (l .slots) (formed-inv n b m l w .order)) (u .1) (u .2) in
+    let e = earliest-at (l .head .next) (l .slots) (rising-inv (l .head .next) (l .slots) (formed-inv n b m l w .order)) (u .1) (u .2) in
     subst (λ (x : Record). earliest (isSequence (x .sequence)) (l .slots) ≡ some x) (sym (u .3)) e

@@ -67,7 +67,7 @@ rising-at (s ∷ l) rise (suc i) (suc j) k lt = rising-at l (rise .1) i j (omega
 
 -- the slots of a well-formed log are in order
 pub formed-rising : (n b m : ℕ) (l : Log) → wellFormedLog n b m l ≡ true → Rising sequenceOf (l .slots)
-formed-rising n b m l h = ordered-rising (l .next) (l .slots) (rising-inv (l .next) (l .slots) (formed-inv n b m l h .order))
+formed-rising n b m l h = ordered-rising (l .head .next) (l .slots) (rising-inv (l .head .next) (l .slots) (formed-inv n b m l h .order))
 
 -- no slot before one has its sequence number
 pub sequence-alone : (l : List Slot) → Rising sequenceOf l → (i q : ℕ) → i < length l → sequenceOf (slotAt l i) ≡ q → (j : ℕ) → j < i → isSequence q (slotAt l j) ≡ false
@@ -238,10 +238,8 @@ kept-formed n b m fs l w =
     let c = g .count in
     formed-of n b m (withSlots (kept fs (l .slots)) l)
     (record {
-      from-one = g .from-one;
-      in-four = g .in-four;
-      marks-small = g .marks-small;
+      head = g .head;
       count = omega arith;
       good = kept-good n b fs (l .slots) (g .good);
-      order = rising-of (l .next) (kept fs (l .slots)) (kept-ordered (l .next) fs (l .slots) (rising-inv (l .next) (l .slots) (g .order)));
+      order = rising-of (l .head .next) (kept fs (l .slots)) (kept-ordered (l .head .next) fs (l .slots) (rising-inv (l .head .next) (l .slots) (g .order)));
     })

@@ -15,6 +15,7 @@ use Rattle.record.specs.Fields.{allBelow, fits, parts}
 use Rattle.log.specs.Slot.{Slot, Log, withSlots, goodSlot, goodSlots, wellFormedLog}
 use Rattle.log.specs.Stored.{encodeHead, headBytes, slotBytes, encodeSlot, encodeSlots, encodeLog, readSlots, readLog}
 use Rattle.log.specs.Laws.Slot.{and-both, GoodSlot, slots-inv, slots-of, formed-inv, formed-of}
+use Rattle.log.specs.Laws.Head.{length-head, behind-head}
 use Rattle.log.specs.Laws.Stored.{length-slot, length-slots, length-log, read-slots, read-log}
 use Rattle.log.specs.Code.Slots.{slotsIn, slotPart, slotAt, noSlot, Slotted, Logged, usedIn, usedPart}
 
@@ -52,9 +53,7 @@ formed-most n b m l hn hb h =
     let f = formed-inv n b m l h in
     formed-of 256 64 m l
     (record {
-      from-one = f .from-one;
-      in-four = f .in-four;
-      marks-small = f .marks-small;
+      head = f .head;
       count = f .count;
       good = good-most n b (l .slots) hn hb (f .good);
       order = f .order;
@@ -154,13 +153,13 @@ slot-set s u i lt t w =
     let d : drop (suc i * slotBytes) s ≡ encodeSlots (drop (suc i) l) = ap (drop (suc i * slotBytes)) (sym (u .stored)) ∙ drop-slots 256 64 (suc i) l (u .good) in
     rw (k, a, d) (sym (ap encodeSlots (set-split l i t lt) ∙ slots-append (take i l) (t ∷ drop (suc i) l)))
 
-head-of : (m : ℕ) (l : Log) → take headBytes (encodeLog m l) ≡ encodeHead l
-unfolding encodeLog bytes
-head-of m l = refl
+head-first : (m : ℕ) (l : Log) → take headBytes (encodeLog m l) ≡ encodeHead (l .head)
+unfolding encodeLog
+head-first m l = take-at (encodeHead (l .head)) _ headBytes (length-head (l .head))
 
 rest-of : (m : ℕ) (l : Log) → drop headBytes (encodeLog m l) ≡ encodeSlots (l .slots) ++ replicate (m * slotBytes - length (encodeSlots (l .slots))) 0
-unfolding encodeLog bytes
-rest-of m l = refl
+unfolding encodeLog
+rest-of m l = behind-head (l .head) _
 
 -- a well-formed log's bytes are those of a log
 pub logged-whole : (n b m : ℕ) (l : Log) → wellFormedLog n b m l ≡ true → n ≤ 256 → b ≤ 64 → m ≤ 1024 → Logged n b m (encodeLog m l)
@@ -185,25 +184,25 @@ module _ (n b m : ℕ) (s : List ℕ) (u : Logged n b m s) where
   used-length : length (encodeSlots (readLog m s .slots)) ≡ usedIn m s * slotBytes
   used-length = length-slots n b (readLog m s .slots) used-good
 
-  -- a log's head is its next number and its marks
-  pub head-part : take headBytes s ≡ encodeHead (readLog m s)
-  head-part = ap (take headBytes) (sym (u .stored)) ∙ head-of m (readLog m s)
+  -- a log's first bytes are those of its head
+  pub head-part : take headBytes s ≡ encodeHead (readLog m s .head)
+  head-part = ap (take headBytes) (sym (u .stored)) ∙ head-first m (readLog m s)
 
-  behind-head : drop headBytes s ≡ encodeSlots (readLog m s .slots) ++ replicate ((m - usedIn m s) * slotBytes) 0
-  behind-head =
+  behind-first : drop headBytes s ≡ encodeSlots (readLog m s .slots) ++ replicate ((m - usedIn m s) * slotBytes) 0
+  behind-first =
       let w = used-length in
       let k : m * slotBytes - length (encodeSlots (readLog m s .slots)) ≡ (m - usedIn m s) * slotBytes = omega arith in
       ap (drop headBytes) (sym (u .stored)) ∙ rest-of m (readLog m s) ∙ rw k
 
   -- the bytes of the used slots are those of the slots that are read
   pub used-bytes : usedPart m s ≡ encodeSlots (readLog m s .slots)
-  used-bytes = rw behind-head (take-at (encodeSlots (readLog m s .slots)) (replicate ((m - usedIn m s) * slotBytes) 0) (usedIn m s * slotBytes) used-length)
+  used-bytes = rw behind-first (take-at (encodeSlots (readLog m s .slots)) (replicate ((m - usedIn m s) * slotBytes) 0) (usedIn m s * slotBytes) used-length)
 
   -- "0 free": behind the used slots all is zero
   pub free-part : drop (headBytes + usedIn m s * slotBytes) s ≡ replicate ((m - usedIn m s) * slotBytes) 0
   free-part =
       sym (drop-drop (usedIn m s * slotBytes) headBytes s)
-      ∙ rw behind-head (drop-at (encodeSlots (readLog m s .slots)) (replicate ((m - usedIn m s) * slotBytes) 0) (usedIn m s * slotBytes) used-length)
+      ∙ rw behind-first (drop-at (encodeSlots (readLog m s .slots)) (replicate ((m - usedIn m s) * slotBytes) 0) (usedIn m s * slotBytes) used-length)
 
   -- the slots in the used part are those of the log
   pub used-slots : slotsIn (usedPart m s) ≡ readLog m s .slots
@@ -215,7 +214,7 @@ module _ (n b m : ℕ) (s : List ℕ) (u : Logged n b m s) where
 
   -- a log's bytes are its head, its used part and zeros
   pub logged-parts : s ≡ take headBytes s ++ (usedPart m s ++ replicate ((m - usedIn m s) * slotBytes) 0)
-  logged-parts = sym (take-append-drop headBytes s) ∙ ap (λ (y : List ℕ). take headBytes s ++ y) (behind-head ∙ ap (λ (y : List ℕ). y ++ replicate ((m - usedIn m s) * slotBytes) 0) (sym used-bytes))
+  logged-parts = sym (take-append-drop headBytes s) ∙ ap (λ (y : List ℕ). take headBytes s ++ y) (behind-first ∙ ap (λ (y : List ℕ). y ++ replicate ((m - usedIn m s) * slotBytes) 0) (sym used-bytes))
 
   slots-put : (l : List Slot) (z : ℕ) → length (encodeSlots l) + z ≡ usedIn m s * slotBytes
       → take headBytes s ++ ((encodeSlots l ++ replicate z 0) ++ drop (headBytes + usedIn m s * slotBytes) s) ≡ encodeLog m (withSlots l (readLog m s))

@@ -43,7 +43,7 @@ append-lost p (s ∷ u) v = go (isLossOf p s) (append-lost p u v)
 -- what is issued waits
 pub issue-lost : (p q : ℕ) (o : Operation) (l : Log) → lossesOf p (issue q o l .slots) ≡ lossesOf p (l .slots)
 unfolding issue lossesOf
-issue-lost p q o l = append-lost p (l .slots) (waitingSlot (record { sequence = l .next; program = q; operation = o }) ∷ []) ∙ append-nil (lossesOf p (l .slots))
+issue-lost p q o l = append-lost p (l .slots) (waitingSlot (record { sequence = l .head .next; program = q; operation = o }) ∷ []) ∙ append-nil (lossesOf p (l .slots))
 
 waits-no-loss : (p : ℕ) (s : Slot) → isWaiting s ≡ true → isLossOf p s ≡ false
 waits-no-loss p s e = ap (λ (b : Bool). not b && eqb (s .recorded .program) p) e

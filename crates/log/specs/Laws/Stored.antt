@@ -6,9 +6,10 @@ use mathlib.Core.List.{List, [], _∷_, _++_, append-assoc}
 use mathlib.Core.Bool.{Bool, true, false, _&&_, cond, and-eq-true-iff}
 use mathlib.Core.Option.{none, some}
 use lib.ListN.{length, getD, take, drop, replicate, length-append}
-use lib.Seq.{take-at, drop-at, getD-take}
+use lib.Seq.{take-all, take-at, drop-at, getD-take}
 use Rattle.buffer.specs.Numeral.{bytes, numeral}
-use Rattle.buffer.specs.Laws.Numeral.{length-bytes, numeral-bytes}
+use Rattle.buffer.specs.Patch.{patch}
+use Rattle.buffer.specs.Laws.Numeral.{numeral-bytes}
 use Rattle.record.specs.Operation.{Record}
 use Rattle.record.specs.Fields.{encode, valid}
 use Rattle.record.specs.Decode.{decodeRecord}
@@ -16,17 +17,19 @@ use Rattle.record.specs.Laws.Record.{encode-length}
 use Rattle.record.specs.Laws.Decode.{decode-encoded}
 use Rattle.volume_entry.specs.Stored.{padded, sameBytes}
 use Rattle.volume_entry.specs.Laws.Entry.{same-bytes, bytes-same, length-padded}
-use Rattle.log.specs.Slot.{State, waiting, lost, stateNumber, Slot, Log, goodSlots, wellFormedLog}
-use Rattle.log.specs.Stored.{headBytes, slotBytes, dependentsAt, recordStart, recordBytes, logBytes, encodeSlot, encodeSlots, encodeLog, slotFrom, readSlot, readSlots, readLog, decodeLog}
+use Rattle.log.specs.Slot.{State, waiting, lost, stateNumber, Slot, Log, withMarks, goodSlots, wellFormedLog}
+use Rattle.log.specs.Stored.{marksAt, headBytes, slotBytes, dependentsAt, recordBytes, logBytes, encodeSlot, encodeSlots, encodeHead, encodeLog, recordPart, slotFrom, readSlot, readSlots, readHead, readLog, decodeLog}
 use Rattle.log.specs.Laws.Slot.{slots-inv, formed-inv}
+use Rattle.log.specs.Laws.Head.{length-head, behind-head, read-head, marks-put}
+
+-- the record's part of a slot is filled
+part-long : (s : Slot) → valid (s .recorded) ≡ true → length (padded recordBytes (encode (s .recorded))) ≡ recordBytes
+part-long s h = length-padded recordBytes (encode (s .recorded)) (encode-length (s .recorded) h .1)
 
 -- the bytes of one slot are so many
 pub length-slot : (s : Slot) → valid (s .recorded) ≡ true → length (encodeSlot s) ≡ slotBytes
 unfolding encodeSlot bytes
-length-slot s h =
-    let e = encode-length (s .recorded) h in
-    let p = length-padded recordBytes (encode (s .recorded)) (e .1) in
-    omega arith
+length-slot s h = let p = part-long s h in omega arith
 
 -- the bytes of so many good slots
 pub length-slots : (n b : ℕ) (l : List Slot) → goodSlots n b l ≡ true → length (encodeSlots l) ≡ length l * slotBytes
@@ -40,28 +43,30 @@ length-slots n b (s ∷ l) h =
 
 -- a well-formed log has the bytes of its head and of its m slots
 pub length-log : (n b m : ℕ) (l : Log) → wellFormedLog n b m l ≡ true → length (encodeLog m l) ≡ logBytes m
-unfolding encodeLog bytes
+unfolding encodeLog
 length-log n b m l h =
     let f = formed-inv n b m l h in
     let c = f .count in
     let e = length-slots n b (l .slots) (f .good) in
     let p = length-padded (m * slotBytes) (encodeSlots (l .slots)) (omega arith) in
-    omega arith
+    length-append (encodeHead (l .head)) _ ∙ omega (arith, length-head (l .head))
 
-first-four : (v : ℕ) (t : List ℕ) → v < 2 ^ 32 → numeral (take 4 (bytes 4 v ++ t)) ≡ v
-first-four v t h = ap numeral (take-at (bytes 4 v) t 4 (length-bytes 4 v)) ∙ numeral-bytes 4 v h
+-- other marks put into a log's bytes
+pub marks-stored : (m v : ℕ) (l : Log) → patch (encodeLog m l) marksAt (bytes 4 v) ≡ encodeLog m (withMarks v l)
+unfolding encodeLog
+marks-stored m v l = marks-put v l _
 
-behind-head : (v w : ℕ) (t : List ℕ) → drop headBytes (bytes 4 v ++ (bytes 4 w ++ t)) ≡ t
-unfolding bytes
-behind-head v w t = refl
-
-slot-record : (s : Slot) → valid (s .recorded) ≡ true → decodeRecord (drop recordStart (encodeSlot s)) ≡ some (s .recorded)
+-- the loss record and the zeros behind it, in a slot's bytes
+pub record-held : (s : Slot) → valid (s .recorded) ≡ true → recordPart (encodeSlot s) ≡ padded recordBytes (encode (s .recorded))
 unfolding encodeSlot bytes
-slot-record s h = decode-encoded (s .recorded) (replicate (recordBytes - length (encode (s .recorded))) 0) h
+record-held s h = let p = part-long s h in take-all recordBytes _ (omega arith)
+
+slot-record : (s : Slot) → valid (s .recorded) ≡ true → decodeRecord (recordPart (encodeSlot s)) ≡ some (s .recorded)
+slot-record s h = ap decodeRecord (record-held s h) ∙ decode-encoded (s .recorded) (replicate (recordBytes - length (encode (s .recorded))) 0) h
 
 pub slot-dependents : (s : Slot) → s .dependents < 2 ^ 32 → numeral (take 4 (drop dependentsAt (encodeSlot s))) ≡ s .dependents
 unfolding encodeSlot bytes
-slot-dependents s d = first-four (s .dependents) (padded recordBytes (encode (s .recorded))) d
+slot-dependents s d = numeral-bytes 4 (s .dependents) d
 
 pub slot-state : (s : Slot) → getD (encodeSlot s) 0 0 ≡ stateNumber (s .state) % 256
 unfolding encodeSlot bytes
@@ -115,14 +120,10 @@ read-log n b m l h =
     let c = f .count in
     let z = encodeSlots (l .slots) in
     let u = length-slots n b (l .slots) (f .good) in
-    let p = padded (m * slotBytes) z in
-    let e₁ : numeral (take 4 (bytes 4 (l .next) ++ (bytes 4 (l .marks) ++ p))) ≡ l .next = first-four (l .next) (bytes 4 (l .marks) ++ p) (f .in-four) in
-    let d₄ : drop 4 (bytes 4 (l .next) ++ (bytes 4 (l .marks) ++ p)) ≡ bytes 4 (l .marks) ++ p = drop-at (bytes 4 (l .next)) (bytes 4 (l .marks) ++ p) 4 (length-bytes 4 (l .next)) in
-    let e₂ : numeral (take 4 (drop 4 (bytes 4 (l .next) ++ (bytes 4 (l .marks) ++ p)))) ≡ l .marks = rw d₄ (first-four (l .marks) p (f .marks-small)) in
-    let d₈ : drop headBytes (bytes 4 (l .next) ++ (bytes 4 (l .marks) ++ p)) ≡ p = behind-head (l .next) (l .marks) p in
-    let e₃ : readSlots m (drop headBytes (bytes 4 (l .next) ++ (bytes 4 (l .marks) ++ p))) ≡ l .slots =
-    rw d₈ (read-slots n b m (m * slotBytes - length z) (l .slots) (f .good) (omega arith)) in
-    ap (readLog m) (append-assoc (bytes 4 (l .next)) (bytes 4 (l .marks)) p) ∙ (λ i. record { next = e₁ i; marks = e₂ i; slots = e₃ i })
+    let e : readHead (encodeHead (l .head) ++ padded (m * slotBytes) z) ≡ l .head = read-head (l .head) _ (f .head) in
+    let r : readSlots m (drop headBytes (encodeHead (l .head) ++ padded (m * slotBytes) z)) ≡ l .slots =
+    ap (readSlots m) (behind-head (l .head) _) ∙ read-slots n b m (m * slotBytes - length z) (l .slots) (f .good) (omega arith) in
+    λ i. record { head = e i; slots = r i }
 
 -- bytes taken for a log are those of that log, which is well formed
 pub encode-decode : (n b m : ℕ) (s : List ℕ) (l : Log) → decodeLog n b m s ≡ some l → (wellFormedLog n b m l ≡ true) × (encodeLog m l ≡ s)

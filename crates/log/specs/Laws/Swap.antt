@@ -11,19 +11,22 @@ use lib.ListN.{length, set, take, drop, length-append, length-take, length-drop,
 use lib.Seq.{set-set}
 use lib.Dec.{leb, ltb, eqb}
 use borrow.Author.Tests.{leb-true, ltb-false, eqb-true, not-true, not-false}
-use Rattle.buffer.specs.Laws.Test.{or-left, or-right}
-use Rattle.record.specs.Operation.{Operation, createFile, makeDirectory, remove, rename, overwrite, append, setLength, forder, Record, operands}
+use Rattle.buffer.specs.Laws.Test.{or-left, or-right, same-test}
+use Rattle.record.specs.Operation.{Operation, overwrite, Record, operands, Stretch, overwriteOf}
+use Rattle.record.specs.Laws.Operation.{overwrites}
 use Rattle.record.specs.Fields.{member, valid, fits}
-use Rattle.volume_entry.specs.Entry.{Entry, free, file, directory, isFile, contentsOf, refilled}
+use Rattle.volume_entry.specs.Entry.{Entry, isFile, contentsOf, refilled}
 use Rattle.volume_tree.specs.Volume.{Volume, entryAt}
 use Rattle.volume_tree.specs.Form.{wellFormed}
 use Rattle.buffer.specs.Patch.{patch}
+use Rattle.volume_entry.specs.Laws.Entry.{refilled-kind, refilled-contents, refilled-twice}
+use Rattle.volume_entry.specs.Laws.Field.{alike-file}
 use Rattle.volume_entry.specs.Laws.Write.{length-patch, patch-between}
 use Rattle.volume_apply.specs.Apply.{applies, apply}
 use Rattle.volume_tree.specs.Laws.Search.{entry-set-same, file-below}
 use Rattle.volume_apply.specs.Laws.Apply.{apply-good, apply-length}
 use Rattle.volume_apply.specs.Laws.Local.{Agree, same-volume, member-first, member-next, applies-local, apply-local, apply-elsewhere}
-use Rattle.log.specs.Order.{shares, touches, overlap, Stretch, overwriteOf, separate, directlyPrecedes}
+use Rattle.log.specs.Order.{shares, touches, overlap, separate, directlyPrecedes}
 
 -- A common member of two lists is shared.
 pub in-both : (i : ℕ) (k l : List ℕ) → member i k ≡ true → member i l ≡ true → shares k l ≡ true
@@ -54,35 +57,16 @@ shares-none k l e i m = go (member i l) refl
     go true n = absurd (false≢true (sym e ∙ in-both i k l m n))
     go false n = n
 
-pub shares-sym : (k l : List ℕ) → shares k l ≡ false → shares l k ≡ false
-shares-sym k l e = go (shares l k) refl
+pub shares-sym : (k l : List ℕ) → shares k l ≡ shares l k
+shares-sym k l = same-test (shares k l) (shares l k) (one k l) (one l k)
   where
-    go : (b : Bool) → shares l k ≡ b → shares l k ≡ false
-    go true n = let r = shares-some l k n in absurd (false≢true (sym e ∙ in-both (r .0) k l (r .1 .1) (r .1 .0)))
-    go false n = n
+    one : (k l : List ℕ) → shares k l ≡ true → shares l k ≡ true
+    one k l e = let r = shares-some k l e in in-both (r .0) l k (r .1 .1) (r .1 .0)
 
 -- two operations without order: no shared operand, or two overwrites of one file without a common byte
 pub data Apart (a b : Operation) : Type 0 where
   disjoint : shares (operands a) (operands b) ≡ false → Apart a b
   stretches : (o f g : ℕ) (c d : List ℕ) → a ≡ overwrite o f c → b ≡ overwrite o g d → overlap f c g d ≡ false → Apart a b
-
--- an operation that has a stretch is an overwrite
-record Overwrites (a : Operation) (s : Stretch) : Type 0 where
-  object : ℕ
-  is : a ≡ overwrite object (s .offset) (s .content)
-
-no-stretch : {C : Type 0} {s : Stretch} → none ≡ some s → C
-no-stretch e = let z : _≡_ {A = ℕ} 0 1 = cc in absurd (omega arith)
-
-overwrites : (a : Operation) (s : Stretch) → overwriteOf a ≡ some s → Overwrites a s
-overwrites (createFile o p n) s e = no-stretch e
-overwrites (makeDirectory o p n) s e = no-stretch e
-overwrites (remove o p n) s e = no-stretch e
-overwrites (rename o p q d n m) s e = no-stretch e
-overwrites (overwrite o f c) s e = let z : _≡_ {A = Stretch} (record { offset = f; content = c }) s = cc in record { object = o; is = ap (λ (t : Stretch). overwrite o (t .offset) (t .content)) z }
-overwrites (append o f c) s e = no-stretch e
-overwrites (setLength o f) s e = no-stretch e
-overwrites (forder l) s e = no-stretch e
 
 -- two stretches without a common byte
 separated : (s t : Option Stretch) → separate s t ≡ true
@@ -91,9 +75,9 @@ separated none t e = absurd (false≢true e)
 separated (some s) none e = absurd (false≢true e)
 separated (some s) (some t) e = (s, t, refl, refl, not-true _ e)
 
-one-shared : (o p f g : ℕ) (c d : List ℕ) → shares (operands (overwrite o f c)) (operands (overwrite p g d)) ≡ true → o ≡ p
-unfolding shares operands member
-one-shared o p f g c d e = go (eqb o p) refl e
+one-shared : (o p : ℕ) → shares (o ∷ []) (p ∷ []) ≡ true → o ≡ p
+unfolding shares member
+one-shared o p e = go (eqb o p) refl e
   where
     go : (b : Bool) → eqb o p ≡ b → (b || false) || false ≡ true → o ≡ p
     go true t e = eqb-true o p t
@@ -114,12 +98,11 @@ apart a b e = go (touches a b) refl e
         let d = x .1 .content in
         let oa = overwrites a (x .0) (x .2) in
         let ob = overwrites b (x .1) (x .3) in
-        let s' : touches (overwrite (oa .object) f c) (overwrite (ob .object) g d) ≡ true = (λ j. touches (sym (oa .is) j) (sym (ob .is) j)) ∙ s in
-        let q : oa .object ≡ ob .object = one-shared (oa .object) (ob .object) f g c d s' in
+        let q : oa .object ≡ ob .object = one-shared (oa .object) (ob .object) (rw (oa .operand, ob .operand) at s) in
         stretches (oa .object) f g c d (oa .is) (ob .is ∙ ap (λ (i : ℕ). overwrite i g d) (sym q)) (x .4)
 
 pub apart-sym : {a b : Operation} → Apart a b → Apart b a
-apart-sym {a} {b} (disjoint e) = disjoint (shares-sym (operands a) (operands b) e)
+apart-sym {a} {b} (disjoint e) = disjoint (shares-sym (operands b) (operands a) ∙ e)
 apart-sym (stretches o f g c d ea eb e) = stretches o g f d c eb ea (and-comm (ltb g (f + length c)) (ltb f (g + length d)) ∙ e)
 
 -- two writes over parts of one list
@@ -168,21 +151,29 @@ overwritten e f c = refilled e (patch (contentsOf e) f c)
 abbrev covers : Entry → ℕ → List ℕ → Bool
 covers e f c = isFile e && leb (f + length c) (length (contentsOf e))
 
+covers-inv : (e : Entry) (f : ℕ) (c : List ℕ) → covers e f c ≡ true → (isFile e ≡ true) × (f + length c ≤ length (contentsOf e))
+covers-inv e f c t =
+    let h = and-eq-true-iff (isFile e) (leb (f + length c) (length (contentsOf e))) .0 t in
+    (h .0, leb-true (f + length c) (length (contentsOf e)) (h .1))
+
 -- a write keeps what stretches lie inside
 covers-kept : (e : Entry) (f g : ℕ) (c d : List ℕ) → covers e f c ≡ true → covers (overwritten e f c) g d ≡ covers e g d
-covers-kept free f g c d t = refl
-covers-kept (directory n p) f g c d t = refl
-covers-kept (file n p k) f g c d t = ap (leb (g + length d)) (length-patch k f c (leb-true (f + length c) (length k) t))
+covers-kept e f g c d t =
+    let h = covers-inv e f c t in
+    rw (alike-file (overwritten e f c) e (refilled-kind e _), refilled-contents e (patch (contentsOf e) f c) (h .0), length-patch (contentsOf e) f c (h .1))
 
 overwritten-swap : (e : Entry) (f g : ℕ) (c d : List ℕ) → overlap f c g d ≡ false → covers e f c ≡ true → covers e g d ≡ true
     → overwritten (overwritten e f c) g d ≡ overwritten (overwritten e g d) f c
-overwritten-swap free f g c d o s t = refl
-overwritten-swap (directory n p) f g c d o s t = refl
-overwritten-swap (file n p k) f g c d o s t =
-    ap (file n p) (written-swap k f g c d o (leb-true (f + length c) (length k) s) (leb-true (g + length d) (length k) t))
+overwritten-swap e f g c d o s t =
+    let h = covers-inv e f c s in
+    let k = covers-inv e g d t in
+    twice f g c d (h .0) ∙ ap (refilled e) (written-swap (contentsOf e) f g c d o (h .1) (k .1)) ∙ sym (twice g f d c (h .0))
+  where
+    twice : (f g : ℕ) (c d : List ℕ) → isFile e ≡ true → overwritten (overwritten e f c) g d ≡ refilled e (patch (patch (contentsOf e) f c) g d)
+    twice f g c d h = refilled-twice e _ _ ∙ ap (λ (k : List ℕ). refilled e (patch k g d)) (refilled-contents e (patch (contentsOf e) f c) h)
 
 covers-below : (v : Volume) (o f : ℕ) (c : List ℕ) → covers (entryAt v o) f c ≡ true → o < length v
-covers-below v o f c t = file-below v o (and-eq-true-iff (isFile (entryAt v o)) (leb (f + length c) (length (contentsOf (entryAt v o)))) .0 t .0)
+covers-below v o f c t = file-below v o (covers-inv (entryAt v o) f c t .0)
 
 stretch-unmoved : (v : Volume) (o f g : ℕ) (c d : List ℕ) → applies v (overwrite o f c) ≡ true
     → applies (apply v (overwrite o f c)) (overwrite o g d) ≡ applies v (overwrite o g d)
@@ -210,7 +201,7 @@ stretch-commute v o f g c d e t u =
 pub unmoved : (v : Volume) (a b : Operation) → Apart a b → applies v a ≡ true → applies (apply v a) b ≡ applies v b
 unmoved v a b (disjoint e) t =
     applies-local (apply v a) v b (apply-length v a)
-    (λ i m. apply-elsewhere v a t i (shares-none (operands b) (operands a) (shares-sym (operands a) (operands b) e) i m))
+    (λ i m. apply-elsewhere v a t i (shares-none (operands b) (operands a) (shares-sym (operands b) (operands a) ∙ e) i m))
 unmoved v a b (stretches o f g c d ea eb e) t = rw (ea, eb) (stretch-unmoved v o f g c d (rw ea at t))
 
 -- Of two operations that apply to a volume and have no order, each applies after the other.
@@ -239,7 +230,7 @@ module _ (n b : ℕ) (v : Volume) (r q : Record) (w : wellFormed n b v ≡ true)
       v2 = apply v y
 
       e' : shares (operands y) (operands x) ≡ false
-      e' = shares-sym (operands x) (operands y) e
+      e' = shares-sym (operands y) (operands x) ∙ e
 
       t2 : applies v2 x ≡ true
       t2 = unmoved v y x (disjoint e') u ∙ t

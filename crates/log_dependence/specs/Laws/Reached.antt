@@ -19,7 +19,7 @@ use Rattle.log_dependence.specs.Code.Reached.{Tried}
 
 -- what is told of the bytes of a slot's record is told of its operation
 pub slot-told : (s : List ℕ) → Slotted s → (i : ℕ) → i < length (slotsIn s) → (x : List ℕ) → x ≡ padded recordBytes (encode (slotAt (slotsIn s) i .recorded)) → (o : Order) → Told x o
-    → Ordering (slotAt (slotsIn s) i .recorded .operation) o
+    → Ordering x (slotAt (slotsIn s) i .recorded .operation) o
 slot-told s u i lt x e o tell = tell (slotAt (slotsIn s) i .recorded) _ (record-valid s u i lt) e
 
 -- a slot that waits is reached if it has an operand among the objects

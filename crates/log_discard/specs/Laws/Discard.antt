@@ -145,14 +145,7 @@ unfolding discard
 all-lost-good n b m l w =
     let g = formed-inv n b m (discard l) (discard-good n b m l w) in
     formed-of n b m (allLost l)
-    (record {
-      from-one = g .from-one;
-      in-four = g .in-four;
-      marks-small = formed-inv n b m l w .marks-small;
-      count = g .count;
-      good = g .good;
-      order = g .order;
-    })
+    (record { head = formed-inv n b m l w .head; count = g .count; good = g .good; order = g .order })
 
 module _ (m : ℕ) (s : List ℕ) (u : Logged 256 64 m s) {k : ℕ} (e : k ≡ usedIn m s) where
   -- What comes back from the slots stands in the place of what was lent on.
@@ -174,9 +167,9 @@ module _ (m : ℕ) (s : List ℕ) (u : Logged 256 64 m s) {k : ℕ} (e : k ≡ u
     lost-logged = rw h (logged-whole 256 64 m (allLost (readLog m s)) lost-good (omega arith) (omega arith) (u .most))
 
     -- With the programs that depended on the slots added to its marks it is the log that a cut leaves.
-    pub cut-whole : {y : List ℕ} {a f v : ℕ} → a ≡ readLog m t .marks → f ≡ dependentsOf (slotsIn (lentPart k s)) → v ≡ union a f
+    pub cut-whole : {y : List ℕ} {a f v : ℕ} → a ≡ readLog m t .head .marks → f ≡ dependentsOf (slotsIn (lentPart k s)) → v ≡ union a f
         → y ≡ encodeLog m (withMarks v (readLog m t)) → y ≡ encodeLog m (discard (readLog m s))
     unfolding discard
     cut-whole p q r z =
         let b : readLog m t ≡ allLost (readLog m s) = ap (readLog m) h ∙ read-log 256 64 m (allLost (readLog m s)) lost-good in
-        z ∙ ap₂ (λ (j : ℕ) (l : Log). encodeLog m (withMarks j l)) (r ∙ ap₂ union (p ∙ ap (λ (l : Log). l .marks) b) (q ∙ ap dependentsOf (lent-slots 256 64 m s u k e))) b
+        z ∙ ap₂ (λ (j : ℕ) (l : Log). encodeLog m (withMarks j l)) (r ∙ ap₂ union (p ∙ ap (λ (l : Log). l .head .marks) b) (q ∙ ap dependentsOf (lent-slots 256 64 m s u k e))) b

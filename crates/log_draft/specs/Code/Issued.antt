@@ -3,7 +3,6 @@ use Prim.Native.Nat.{ℕ, _<_}
 use mathlib.Core.Path.{_≡_}
 use mathlib.Core.List.{List, [], _∷_, _++_}
 use mathlib.Core.Bool.{true}
-use lib.ListN.{length}
 use Rattle.record.specs.Operation.{Operation, Record, recordOf, operands}
 use Rattle.record.specs.Fields.{encode, valid, fits}
 use Rattle.volume_tree.specs.Volume.{Volume}
@@ -12,7 +11,8 @@ use Rattle.volume_apply.specs.Apply.{applies, apply}
 use Rattle.log.specs.Slot.{Log}
 use Rattle.log.specs.Stored.{encodeLog, readLog}
 use Rattle.log.specs.Change.{note, issue}
-use Rattle.log_draft.specs.Code.Draft.{Draft}
+use Rattle.log_draft.specs.declared.Draft.{Draft}
+use Rattle.log_draft.specs.Code.Draft.{Placed}
 use Rattle.log.specs.Code.Slots.{usedIn}
 
 -- the record of an operation that may be issued: it is valid, fits, and applies to the view
@@ -30,25 +30,19 @@ pub record Begins (s : List ℕ) (r : Record) : Type 0 where
 abbrev pub issuedLog : Record → Log → Log
 issuedLog r l = issue (r .program) (r .operation) (note (r .program) (operands (r .operation)) l)
 
--- a record stands in the first free slot
-pub record Placed (n b m used p : ℕ) (s : List ℕ) (l : Log) (r : Record) : Type 0 where
-  pub draft : Draft n b m s l r
-  pub place : used ≡ length (l .slots)
-  pub issuer : r .program ≡ p
-
--- and its operation may be issued
-pub record Ready (n b m used p : ℕ) (s : List ℕ) (v : Volume) (l : Log) (r : Record) : Type 0 where
-  pub placed : Placed n b m used p s l r
+-- a record stands in the first free slot, and its operation may be issued
+pub record Ready (n b m : ℕ) (d : Draft) (s : List ℕ) (v : Volume) (l : Log) (r : Record) : Type 0 where
+  pub placed : Placed n b m d s l r
   pub able : Issuable n b v r
 
 -- the sequence number and the log afterwards, in which the operation waits
 pub record Waits (m number : ℕ) (log′ : List ℕ) (l : Log) (r : Record) : Type 0 where
-  pub gives : number ≡ l .next
+  pub gives : number ≡ l .head .next
   pub log : log′ ≡ encodeLog m (issuedLog r l)
 
 -- the same, and the view afterwards
 pub record Issued (n b m : ℕ) (number : ℕ) (log′ view′ : List ℕ) (v : Volume) (l : Log) (r : Record) : Type 0 where
-  pub gives : number ≡ l .next
+  pub gives : number ≡ l .head .next
   pub log : log′ ≡ encodeLog m (issuedLog r l)
   pub view : view′ ≡ encodeVolume b (apply v (r .operation))
 
@@ -59,12 +53,12 @@ pub record Kept (n b : ℕ) (r : Record) : Type 0 where
 
 -- a log has a free slot and a number for one more operation
 abbrev pub Room : ℕ → List ℕ → Type 0
-Room m s = (usedIn m s < m) × (readLog m s .next < 4294967295)
+Room m s = (usedIn m s < m) × (readLog m s .head .next < 4294967295)
 
 -- operations of a program one after the other: what they leave of a log and of a volume
 unfoldable pub issuedAll : ℕ → List Operation → Log → Log
 issuedAll p [] l = l
-issuedAll p (o ∷ os) l = issuedAll p os (issuedLog (recordOf (l .next) p o) l)
+issuedAll p (o ∷ os) l = issuedAll p os (issuedLog (recordOf (l .head .next) p o) l)
 
 unfoldable pub appliedAll : List Operation → Volume → Volume
 appliedAll [] v = v
@@ -72,6 +66,6 @@ appliedAll (o ∷ os) v = appliedAll os (apply v o)
 
 -- the sequence number of the first, and the log and the view afterwards
 pub record AllIssued (b m number : ℕ) (log′ view′ : List ℕ) (v : Volume) (l : Log) (p : ℕ) (os : List Operation) : Type 0 where
-  pub gives : number ≡ l .next
+  pub gives : number ≡ l .head .next
   pub log : log′ ≡ encodeLog m (issuedAll p os l)
   pub view : view′ ≡ encodeVolume b (appliedAll os v)

@@ -25,20 +25,20 @@ use Rattle.log_slots.specs.Laws.Slot.{head-limits}
 use Rattle.log_draft.specs.Code.Issued.{Issuable, issuedLog, Issued, Room, issuedAll, appliedAll, AllIssued}
 
 -- One operation is a list of one.
-pub one-issued : {n b m x p : ℕ} {log view : List ℕ} {v : Volume} {l : Log} {o : Operation} → Issued n b m x log view v l (recordOf (l .next) p o)
+pub one-issued : {n b m x p : ℕ} {log view : List ℕ} {v : Volume} {l : Log} {o : Operation} → Issued n b m x log view v l (recordOf (l .head .next) p o)
     → AllIssued b m x log view v l p (o ∷ [])
 unfolding issuedAll appliedAll
 one-issued h = record { gives = h .gives; log = h .log; view = h .view }
 
 module _ (n b m : ℕ) (s t : List ℕ) (u : Logged n b m s) (f : Formed n b t) (r : Record) (able : Issuable n b (readVolume n b t) r)
-    (room : Room m s) (first : r .sequence ≡ readLog m s .next) where
+    (room : Room m s) (first : r .sequence ≡ readLog m s .head .next) where
   issued-form : wellFormedLog n b m (issuedLog r (readLog m s)) ≡ true
   issued-form =
       let l = readLog m s in
       let p = r .program in
       let o = r .operation in
       let small = head-limits r (able .sound) .1 in
-      let is : r ≡ recordOf (l .next) p o = ap (λ (j : ℕ). recordOf j p o) first in
+      let is : r ≡ recordOf (l .head .next) p o = ap (λ (j : ℕ). recordOf j p o) first in
       let c : length (note p (operands o) l .slots) < m = rw (noted-length p (operands o) (l .slots)) (room .0) in
       issue-good n b m p o (note p (operands o) l) small (note-good n b m p (operands o) l small (u .form)) c (room .1) (rw is at (able .sound)) (rw is at (able .fit))
 

@@ -10,7 +10,7 @@ use borrow.Author.Needs.{needs}
 use borrow.Author.Tests.{le-leb, lt-leb}
 use Rattle.buffer.specs.Numeral.{numeral, Bytes}
 use Rattle.buffer.specs.Laws.Span.{take-rest}
-use Rattle.log.specs.Stored.{headBytes, slotBytes, lentLog, formedLog}
+use Rattle.log.specs.Stored.{readHead, headBytes, slotBytes, lentLog, formedLog}
 use Rattle.volume_tree.specs.Laws.Answer.{settled}
 use Rattle.log_form.specs.Code.Checks.{slotsFormed, logFormed}
 use Rattle.log_form.specs.Laws.Checks.{checks-log}
@@ -28,11 +28,11 @@ module _ (n b m : ℕ) (s : List ℕ) where
 
   module _ (next : ℕ) (e : next ≡ numeral (take 4 s)) where
     numberless : next < 1 → false ≡ logFormed n b m s
-    unfolding logFormed
+    unfolding logFormed readHead
     numberless h = rw (← e, lt-leb 1 next h)
 
     numbered : 1 ≤ next → (r : Bool) → r ≡ slotsFormed n b next m 0 false (take (length s - headBytes) (drop headBytes s)) → r ≡ logFormed n b m s
-    unfolding logFormed
+    unfolding logFormed readHead
     numbered h r q = rw (← e, le-leb 1 next h) (q ∙ ap (slotsFormed n b next m 0 false) (take-rest headBytes s))
 
   -- what is lent as it should be is formed exactly if it passes the tests

@@ -11,7 +11,7 @@ use Rattle.record_reader.specs.declared.Reading.{Reading}
 use Rattle.record_reader.specs.declared.Reading.the-variants.{Is as RecordIs, Bad as NoRecord}
 use Rattle.record_reader.specs.Code.Reader.{recordAt}
 use Rattle.record_reader.specs.Code.Fit.{fitsWhole}
-use Rattle.log.specs.Stored.{headBytes, slotBytes, dependentsAt, recordStart}
+use Rattle.log.specs.Stored.{headBytes, slotBytes, dependentsAt, recordPart, readHead}
 use Rattle.log_form.specs.declared.slot.SlotForm.{SlotForm}
 use Rattle.log_form.specs.declared.slot.SlotForm.the-variants.{Is, Bad}
 
@@ -20,14 +20,15 @@ unfoldable pub frontFormed : List ℕ → Bool
 frontFormed s =
     zeros (take 3 (drop 1 s)) && (eqb (getD s 0 0) 1 || (eqb (getD s 0 0) 2 && eqb (numeral (take 4 (drop dependentsAt s))) 0))
 
--- the form of a slot by what the reader answered of its record: it fits n and b, and zeros stand behind it
-abbrev pub formBy : ℕ → ℕ → List ℕ → Reading → SlotForm
-formBy n b s (RecordIs w) = cond (fitsWhole n b s w && zeros (drop (w .next) s)) (Is (w .head .sequence) (eqb (getD s 0 0) 1)) Bad
-formBy n b s NoRecord = Bad
+-- the form of a slot, waiting or not, by its record's part and what the reader answered of it: the record fits n and b, and zeros
+-- stand behind it
+abbrev pub formBy : ℕ → ℕ → Bool → List ℕ → Reading → SlotForm
+formBy n b waits p (RecordIs w) = cond (fitsWhole n b p w && zeros (drop (w .next) p)) (Is (w .head .sequence) waits) Bad
+formBy n b waits p NoRecord = Bad
 
 -- the form of one slot that is not free, by itself
 unfoldable pub slotForm : ℕ → ℕ → List ℕ → SlotForm
-slotForm n b s = cond (frontFormed s) (formBy n b s (recordAt s recordStart)) Bad
+slotForm n b s = cond (frontFormed s) (formBy n b (eqb (getD s 0 0) 1) (recordPart s) (recordAt (recordPart s) 0)) Bad
 
 -- "in rising sequence, the lost before the waiting, all below the next number": whether a slot with its sequence number, waiting
 -- or not, may come behind another, the last
@@ -48,4 +49,4 @@ slotsFormed n b next (suc m) last waits s =
 
 -- "next sequence number (4, from 1), marked programs (4 ..), then m slots"
 unfoldable pub logFormed : ℕ → ℕ → ℕ → List ℕ → Bool
-logFormed n b m s = leb 1 (numeral (take 4 s)) && slotsFormed n b (numeral (take 4 s)) m 0 false (drop headBytes s)
+logFormed n b m s = leb 1 (readHead s .next) && slotsFormed n b (readHead s .next) m 0 false (drop headBytes s)

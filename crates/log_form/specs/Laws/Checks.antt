@@ -6,24 +6,26 @@ use mathlib.Core.Bool.{Bool, true, false, _&&_, and-eq-true-iff, false≢true}
 use mathlib.Core.List.{List, [], _∷_, _++_, append-assoc}
 use mathlib.Core.Option.{Option, none, some}
 use lib.ListN.{length, getD, take, drop, replicate, length-append, length-drop, take-append-drop}
-use lib.Seq.{length-take-le, take-at, drop-at, drop-drop, getD-take, getD-drop}
+use lib.Seq.{length-take-le, take-at, drop-at, getD-take, getD-drop}
 use lib.Dec.{leb, eqb}
 use borrow.Author.Tests.{leb-true, le-leb, eqb-true, eqb-false}
 use Rattle.buffer.specs.Decoded.{isSome}
 use Rattle.buffer.specs.Laws.Test.{same-test}
-use Rattle.buffer.specs.Numeral.{bytes, numeral, Bytes}
-use Rattle.buffer.specs.Laws.Numeral.{bytes-part, number-back}
+use Rattle.buffer.specs.Numeral.{bytes, Bytes}
+use Rattle.buffer.specs.Laws.Numeral.{bytes-part}
 use Rattle.buffer.specs.Code.Zero.{zeros}
 use Rattle.buffer.specs.Laws.Zero.{zeros-replicate, replicate-zeros}
 use Rattle.volume_entry.specs.Stored.{padded}
 use Rattle.log.specs.Slot.{State, waiting, lost, stateNumber, Slot, Log, isWaiting, sequenceOf, goodSlots, wellFormedLog}
-use Rattle.log.specs.Stored.{headBytes, slotBytes, logBytes, encodeSlot, encodeSlots, encodeLog, readLog, decodeLog}
+use Rattle.log.specs.Stored.{headBytes, slotBytes, logBytes, encodeSlot, encodeSlots, encodeLog, readHead, readLog, decodeLog}
 use Rattle.log.specs.Laws.Slot.{and-both, slots-inv, slots-of, formed-inv, formed-of}
+use Rattle.log.specs.Laws.Head.{behind-head}
 use Rattle.log.specs.Laws.Stored.{length-slot, read-log, decode-encode, encode-decode}
 use Rattle.log_form.specs.declared.slot.SlotForm.{SlotForm}
 use Rattle.log_form.specs.declared.slot.SlotForm.the-variants.{Is, Bad}
 use Rattle.log_form.specs.Code.Checks.{slotForm, mayFollow, slotsFormed, logFormed}
-use Rattle.log_form.specs.Laws.Slot.{four-below, Used, form-used, slot-first, used-form}
+use Rattle.log_form.specs.Laws.Head.{head-back, head-good}
+use Rattle.log_form.specs.Laws.Slot.{Used, form-used, slot-first, used-form}
 use Rattle.log_form.specs.Laws.Order.{follows-inv, follows-of, behind, behind-inv, behind-of, behind-rising, rising-all}
 use Rattle.log_form.specs.Laws.Loop.{none-left, from-free, from-bad, from-used}
 
@@ -152,36 +154,25 @@ held-slots n b next (suc m) last waits (t ∷ l) h g o s e byte =
 checks-sound : (n b m : ℕ) (s : List ℕ) → length s ≡ logBytes m → Bytes s → logFormed n b m s ≡ true → isSome (decodeLog n b m s) ≡ true
 unfolding logFormed encodeLog
 checks-sound n b m s size byte h =
-    let next = numeral (take 4 s) in
+    let next = readHead s .next in
     let x = and-eq-true-iff (leb 1 next) (slotsFormed n b next m 0 false (drop headBytes s)) .0 h in
     let r = slots-held n b next m 0 false (drop headBytes s) (length-drop headBytes s ∙ omega arith) (bytes-behind s headBytes byte) (x .1) in
-    let l : Log = record { next = next; marks = numeral (take 4 (drop 4 s)); slots = r .slots } in
+    let l : Log = record { head = readHead s; slots = r .slots } in
     let form : wellFormedLog n b m l ≡ true =
     formed-of n b m l
-    (record {
-      from-one = leb-true 1 next (x .0);
-      in-four = four-below s 0 (omega arith) byte;
-      marks-small = four-below s 4 (omega arith) byte;
-      count = r .count;
-      good = r .good;
-      order = behind-rising next 0 false (r .slots) (r .order);
-    }) in
-    let join : List ℕ → List ℕ → List ℕ = λ x y. x ++ y in
-    let rest : take 4 (drop 4 s) ++ drop headBytes s ≡ drop 4 s = ap (join (take 4 (drop 4 s))) (sym (drop-drop 4 4 s)) ∙ take-append-drop 4 (drop 4 s) in
-    let stored : encodeLog m l ≡ s =
-    append-assoc (bytes 4 next) (bytes 4 (l .marks)) (padded (m * slotBytes) (encodeSlots (r .slots)))
-    ∙ ap₂ join (number-back 4 0 s (omega arith) byte) (ap₂ join (number-back 4 4 s (omega arith) byte) (r .stored) ∙ rest) ∙ take-append-drop 4 s in
+    (record { head = head-good s (omega arith) byte (leb-true 1 next (x .0)); count = r .count; good = r .good; order = behind-rising next 0 false (r .slots) (r .order) }) in
+    let stored : encodeLog m l ≡ s = ap₂ (λ (x y : List ℕ). x ++ y) (head-back s (omega arith) byte) (r .stored) ∙ take-append-drop headBytes s in
     ap isSome (ap (decodeLog n b m) (sym stored) ∙ decode-encode n b m l form)
 
 -- The slots' bytes of a log that is stored.
 slots-part : (m : ℕ) (l : Log) → drop headBytes (encodeLog m l) ≡ padded (m * slotBytes) (encodeSlots (l .slots))
-unfolding encodeLog bytes
-slots-part m l = refl
+unfolding encodeLog
+slots-part m l = behind-head (l .head) _
 
 -- The next number of a log that is stored.
-next-part : (n b m : ℕ) (l : Log) → wellFormedLog n b m l ≡ true → numeral (take 4 (encodeLog m l)) ≡ l .next
+next-part : (n b m : ℕ) (l : Log) → wellFormedLog n b m l ≡ true → readHead (encodeLog m l) .next ≡ l .head .next
 unfolding readLog
-next-part n b m l h = ap (λ (x : Log). x .next) (read-log n b m l h)
+next-part n b m l h = ap (λ (x : Log). x .head .next) (read-log n b m l h)
 
 -- The bytes of a well-formed log pass the tests.
 log-checks : (n b m : ℕ) (l : Log) → wellFormedLog n b m l ≡ true → Bytes (encodeLog m l) → logFormed n b m (encodeLog m l) ≡ true
@@ -189,9 +180,9 @@ unfolding logFormed
 log-checks n b m l h byte =
     let f = formed-inv n b m l h in
     let s = encodeLog m l in
-    let order = rising-all n b (l .next) (l .slots) (f .good) (f .order) in
-    rw (next-part n b m l h, le-leb 1 (l .next) (f .from-one))
-    (held-slots n b (l .next) m 0 false (l .slots) (f .count) (f .good) order (drop headBytes s) (sym (slots-part m l)) (bytes-behind s headBytes byte))
+    let order = rising-all n b (l .head .next) (l .slots) (f .good) (f .order) in
+    rw (next-part n b m l h, le-leb 1 (l .head .next) (f .head .from-one))
+    (held-slots n b (l .head .next) m 0 false (l .slots) (f .count) (f .good) order (drop headBytes s) (sym (slots-part m l)) (bytes-behind s headBytes byte))
 
 -- Bytes taken for a log pass the tests.
 checks-complete : (n b m : ℕ) (s : List ℕ) → Bytes s → isSome (decodeLog n b m s) ≡ true → logFormed n b m s ≡ true

@@ -1,14 +1,14 @@
 -- The test of one slot's bytes passes for the bytes of the good slots, and for no others. Assumes nothing.
 use Prim.Native.Nat.{ℕ, _+_, _-_, _^_, _≤_, _<_}
 use native.Mathlib.Omega.{arith}
-use mathlib.Core.Path.{_≡_, refl, sym, ap, ap₂, _∙_}
+use mathlib.Core.Path.{_≡_, refl, sym, ap, _∙_}
 use mathlib.Core.Bool.{Bool, true, false, _&&_, _||_, cond, and-eq-true-iff}
 use mathlib.Core.List.{List, [], _∷_, _++_}
 use lib.ListN.{length, getD, take, drop, replicate, length-append, length-drop, take-append-drop}
-use lib.Seq.{length-take-le, drop-cons, drop-drop, drop-append-seam}
+use native.Mathlib.Nat.{zero-add}
+use lib.Seq.{length-take-le, take-all, take-suc, take-add, drop-drop, drop-append-seam}
 use lib.Dec.{eqb}
 use borrow.Author.Tests.{eqb-true}
-use Rattle.log_slots.specs.Laws.Slot.{record-held}
 use Rattle.buffer.specs.Numeral.{bytes, numeral, Bytes}
 use Rattle.buffer.specs.Laws.Numeral.{numeral-below, bytes-part, number-back}
 use Rattle.buffer.specs.Code.Zero.{zeros}
@@ -26,8 +26,9 @@ use Rattle.record_reader.specs.Laws.Complete.{record-complete}
 use Rattle.record_reader.specs.Laws.Exact.{decode-encode}
 use Rattle.record_reader.specs.Laws.Fit.{fits-read}
 use Rattle.volume_entry.specs.Stored.{padded}
-use Rattle.log.specs.Slot.{State, waiting, lost, stateNumber, Slot, isWaiting, sequenceOf}
-use Rattle.log.specs.Stored.{slotBytes, dependentsAt, recordStart, recordBytes, encodeSlot}
+use Rattle.log.specs.Slot.{State, waiting, lost, stateNumber, Slot, withState, isWaiting, sequenceOf}
+use Rattle.log.specs.Stored.{slotBytes, dependentsAt, recordStart, recordBytes, encodeFront, encodeSlot, recordPart}
+use Rattle.log.specs.Laws.Stored.{record-held}
 use Rattle.log.specs.Laws.Slot.{GoodSlot}
 use Rattle.log_form.specs.declared.slot.SlotForm.the-variants.{Is, Bad}
 use Rattle.log_form.specs.Code.Checks.{frontFormed, formBy, slotForm}
@@ -73,20 +74,18 @@ module _ (s : List ℕ) (at : ℕ) (room : at + 4 ≤ length s) (byte : Bytes s)
 
 -- A slot has these bytes if its fields are in them.
 slot-back : (e : List ℕ) → length e ≡ slotBytes → Bytes e → (t : Slot) → stateNumber (t .state) ≡ getD e 0 0
-    → zeros (take 3 (drop 1 e)) ≡ true → t .dependents ≡ dependentsIn e → padded recordBytes (encode (t .recorded)) ≡ drop recordStart e → encodeSlot t ≡ e
+    → zeros (take 3 (drop 1 e)) ≡ true → t .dependents ≡ dependentsIn e → padded recordBytes (encode (t .recorded)) ≡ recordPart e → encodeSlot t ≡ e
 unfolding encodeSlot
 slot-back e size byte t state blank dep rest =
-    let a : bytes 1 (stateNumber (t .state)) ≡ getD e 0 0 ∷ [] = first-byte (t .state) ∙ ap (λ (v : ℕ). v ∷ []) state in
+    let a : bytes 1 (stateNumber (t .state)) ≡ take 1 e = first-byte (t .state) ∙ ap (λ (v : ℕ). v ∷ []) state ∙ sym (take-suc e 0 0 (omega arith)) in
     let l₁ = length-drop 1 e in
     let n₃ : length (take 3 (drop 1 e)) ≡ 3 = length-take-le 3 (drop 1 e) (omega arith) in
-    let p₃ : take 3 (drop 1 e) ≡ replicate 3 0 = zeros-replicate (take 3 (drop 1 e)) blank ∙ ap (λ (k : ℕ). replicate k 0) n₃ in
+    let p₃ : replicate 3 0 ≡ take 3 (drop 1 e) = sym (zeros-replicate (take 3 (drop 1 e)) blank ∙ ap (λ (k : ℕ). replicate k 0) n₃) in
     let p₄ : bytes 4 (t .dependents) ≡ take 4 (drop dependentsAt e) = ap (bytes 4) dep ∙ number-back 4 dependentsAt e (omega arith) byte in
-    let d₄ : take 4 (drop dependentsAt e) ++ drop recordStart e ≡ drop dependentsAt e =
-    ap (λ (r : List ℕ). take 4 (drop dependentsAt e) ++ r) (sym (drop-drop 4 dependentsAt e)) ∙ take-append-drop 4 (drop dependentsAt e) in
-    let d₁ : take 3 (drop 1 e) ++ drop dependentsAt e ≡ drop 1 e =
-    ap (λ (r : List ℕ). take 3 (drop 1 e) ++ r) (sym (drop-drop 3 1 e)) ∙ take-append-drop 3 (drop 1 e) in
-    let join : List ℕ → List ℕ → List ℕ = λ x y. x ++ y in
-    ap₂ join a (ap₂ join (sym p₃) (ap₂ join p₄ rest ∙ d₄) ∙ d₁) ∙ sym (drop-cons e 0 0 (omega arith))
+    let inner : take 7 (drop 1 e) ≡ take 3 (drop 1 e) ++ take 4 (drop dependentsAt e) = take-add 3 4 (drop 1 e) ∙ ap (λ (x : List ℕ). take 3 (drop 1 e) ++ take 4 x) (drop-drop 3 1 e) in
+    let front : encodeFront t ≡ take recordStart e = (λ i. a i ++ (p₃ i ++ p₄ i)) ∙ sym (take-add 1 7 e ∙ ap (λ (x : List ℕ). take 1 e ++ x) inner) in
+    let part : recordPart e ≡ drop recordStart e = take-all recordBytes (drop recordStart e) (omega (arith, length-drop recordStart e)) in
+    (λ i. front i ++ (rest ∙ part) i) ∙ take-append-drop recordStart e
 
 -- The place after a record that the reader answers lies in the bytes.
 pub answered-within : (s : List ℕ) → Bytes s → (at : ℕ) (w : Whole) → at ≤ length s → recordAt s at ≡ RecordIs w → w .next ≤ length s
@@ -111,24 +110,31 @@ pub record Used (n b : ℕ) (e : List ℕ) (sequence : ℕ) (waits : Bool) : Typ
   pub state : isWaiting slot ≡ waits
 
 module _ (n b : ℕ) (e : List ℕ) (size : length e ≡ slotBytes) (byte : Bytes e) where
+  abbrev part : List ℕ
+  part = recordPart e
+
+  part-bytes : Bytes part
+  part-bytes = bytes-part e recordBytes recordStart byte
+
   -- A front that passes, a record that fits, and zeros make a good slot.
-  parts-used : Front e → (w : Whole) → recordAt e recordStart ≡ RecordIs w → fitsWhole n b e w ≡ true → zeros (drop (w .next) e) ≡ true
+  parts-used : Front e → (w : Whole) → recordAt part 0 ≡ RecordIs w → fitsWhole n b part w ≡ true → zeros (drop (w .next) part) ≡ true
       → Used n b e (w .head .sequence) (eqb (getD e 0 0) 1)
   unfolding wholeOf
   parts-used f w read fit blank =
-      let g = record-sound e byte recordStart w read in
+      let g = record-sound part part-bytes 0 w read in
       let r = g .found in
       let d = dependentsIn e in
       let slot : Slot = record { state = f .state; dependents = d; recorded = r } in
-      let l : length (drop (w .next) e) ≡ recordBytes - length (encode r) = length-drop (w .next) e ∙ omega (arith, g .spans .after) in
-      let rest : padded recordBytes (encode r) ≡ drop recordStart e =
-      sym (g .spans .begins ∙ ap (λ (t : List ℕ). encode r ++ t) (zeros-replicate (drop (w .next) e) blank ∙ ap (λ (k : ℕ). replicate k 0) l)) in
+      let long : length part ≡ recordBytes = length-take-le recordBytes (drop recordStart e) (omega (arith, length-drop recordStart e)) in
+      let l : length (drop (w .next) part) ≡ recordBytes - length (encode r) = length-drop (w .next) part ∙ omega (arith, g .spans .after, long) in
+      let rest : padded recordBytes (encode r) ≡ part =
+      sym (g .spans .begins ∙ ap (λ (t : List ℕ). encode r ++ t) (zeros-replicate (drop (w .next) part) blank ∙ ap (λ (k : ℕ). replicate k 0) l)) in
       record {
         slot = slot;
         good =
             record {
               sound = g .good;
-              fit = found-fits n b e byte recordStart w r (drop (w .next) e) read (g .good) (g .spans .begins) ∙ fit;
+              fit = found-fits n b part part-bytes 0 w r (drop (w .next) part) read (g .good) (g .spans .begins) ∙ fit;
               small = four-below e dependentsAt (omega arith) byte;
               none-if-lost = f .none-if-lost;
             };
@@ -142,21 +148,21 @@ module _ (n b : ℕ) (e : List ℕ) (size : length e ≡ slotBytes) (byte : Byte
   unfolding slotForm
   form-used q w h = front (frontFormed e) refl h
     where
-      tests : Front e → (x : Whole) → recordAt e recordStart ≡ RecordIs x → (t : Bool) → (fitsWhole n b e x && zeros (drop (x .next) e)) ≡ t
+      tests : Front e → (x : Whole) → recordAt part 0 ≡ RecordIs x → (t : Bool) → (fitsWhole n b part x && zeros (drop (x .next) part)) ≡ t
           → cond t (Is (x .head .sequence) (eqb (getD e 0 0) 1)) Bad ≡ Is q w → Used n b e q w
       tests f x read true p d =
-          let y = and-eq-true-iff (fitsWhole n b e x) (zeros (drop (x .next) e)) .0 p in
+          let y = and-eq-true-iff (fitsWhole n b part x) (zeros (drop (x .next) part)) .0 p in
           let a : x .head .sequence ≡ q = cc in
           let c : eqb (getD e 0 0) 1 ≡ w = cc in
           rw (← a, ← c) (parts-used f x read (y .0) (y .1))
       tests f x read false p d = let z : _≡_ {A = ℕ} 0 1 = cc in absurd (omega arith)
 
-      reading : Front e → (x : Reading) → recordAt e recordStart ≡ x → formBy n b e x ≡ Is q w → Used n b e q w
-      reading f (RecordIs x) read d = tests f x read (fitsWhole n b e x && zeros (drop (x .next) e)) refl d
+      reading : Front e → (x : Reading) → recordAt part 0 ≡ x → formBy n b (eqb (getD e 0 0) 1) part x ≡ Is q w → Used n b e q w
+      reading f (RecordIs x) read d = tests f x read (fitsWhole n b part x && zeros (drop (x .next) part)) refl d
       reading f NoRecord read d = let z : _≡_ {A = ℕ} 0 1 = cc in absurd (omega arith)
 
-      front : (t : Bool) → frontFormed e ≡ t → cond t (formBy n b e (recordAt e recordStart)) Bad ≡ Is q w → Used n b e q w
-      front true p d = reading (front-inv e p) (recordAt e recordStart) refl d
+      front : (t : Bool) → frontFormed e ≡ t → cond t (formBy n b (eqb (getD e 0 0) 1) part (recordAt part 0)) Bad ≡ Is q w → Used n b e q w
+      front true p d = reading (front-inv e p) (recordAt part 0) refl d
       front false p d = let z : _≡_ {A = ℕ} 0 1 = cc in absurd (omega arith)
 
 -- A good slot's bytes begin as the test asks.
@@ -165,7 +171,7 @@ unfolding frontFormed encodeSlot bytes zeros numeral
 front-good s h = go (s .state) h
   where
     go : (t : State) → (eqb (stateNumber t) 1 || eqb (s .dependents) 0) ≡ true
-        → frontFormed (encodeSlot (record { state = t; dependents = s .dependents; recorded = s .recorded })) ≡ true
+        → frontFormed (encodeSlot (withState t s)) ≡ true
     go waiting h = refl
     go lost h = rw (eqb-true (s .dependents) 0 h)
 
@@ -174,7 +180,7 @@ pub slot-first : (s : Slot) → getD (encodeSlot s) 0 0 ≡ stateNumber (s .stat
 unfolding encodeSlot bytes
 slot-first s = go (s .state)
   where
-    go : (t : State) → getD (encodeSlot (record { state = t; dependents = s .dependents; recorded = s .recorded })) 0 0 ≡ stateNumber t
+    go : (t : State) → getD (encodeSlot (withState t s)) 0 0 ≡ stateNumber t
     go waiting = refl
     go lost = refl
 
@@ -183,15 +189,17 @@ pub used-form : (n b : ℕ) (s : Slot) → GoodSlot n b s → Bytes (encodeSlot 
 unfolding slotForm wholeOf
 used-form n b s g byte =
     let e = encodeSlot s in
+    let part = recordPart e in
     let r = s .recorded in
-    let k = recordBytes - length (encode r) in
-    let w = wholeOf r recordStart in
-    let read : recordAt e recordStart ≡ RecordIs w = record-complete e recordStart r (replicate k 0) (g .sound) (record-held s) in
-    let fit : fitsWhole n b e w ≡ true = sym (found-fits n b e byte recordStart w r (replicate k 0) read (g .sound) (record-held s)) ∙ g .fit in
-    let behind : drop (recordStart + length (encode r)) e ≡ replicate k 0 =
-    sym (drop-drop (length (encode r)) recordStart e) ∙ ap (drop (length (encode r))) (record-held s) ∙ drop-append-seam (encode r) (replicate k 0) in
-    let blank : zeros (drop (w .next) e) ≡ true = ap zeros behind ∙ replicate-zeros k in
-    ap (λ (t : Bool). cond t (formBy n b e (recordAt e recordStart)) Bad) (front-good s (g .none-if-lost))
-    ∙ ap (formBy n b e) read
+    let z : List ℕ = replicate (recordBytes - length (encode r)) 0 in
+    let w = wholeOf r 0 in
+    let held : part ≡ encode r ++ z = record-held s (g .sound) in
+    let byte′ = bytes-part e recordBytes recordStart byte in
+    let read : recordAt part 0 ≡ RecordIs w = record-complete part 0 r z (g .sound) held in
+    let fit : fitsWhole n b part w ≡ true = sym (found-fits n b part byte′ 0 w r z read (g .sound) held) ∙ g .fit in
+    let behind : drop (0 + length (encode r)) part ≡ z = ap (λ (k : ℕ). drop k part) (zero-add (length (encode r))) ∙ ap (drop (length (encode r))) held ∙ drop-append-seam (encode r) z in
+    let blank : zeros (drop (w .next) part) ≡ true = ap zeros behind ∙ replicate-zeros (recordBytes - length (encode r)) in
+    ap (λ (t : Bool). cond t (formBy n b (eqb (getD e 0 0) 1) part (recordAt part 0)) Bad) (front-good s (g .none-if-lost))
+    ∙ ap (formBy n b (eqb (getD e 0 0) 1) part) read
     ∙ ap (λ (t : Bool). cond t (Is (r .sequence) (eqb (getD e 0 0) 1)) Bad) (and-eq-true-iff _ _ .1 (fit, blank))
     ∙ ap (λ (v : ℕ). Is (r .sequence) (eqb v 1)) (slot-first s)

@@ -107,7 +107,7 @@ free-sent-requires c κs =
     let l = readLog (a .m) (a .log .now) in
     let v = readVolume (a .n) (a .b) (a .server .now) in
     let h = counted (a .b) _ (a .object) v l _ (f .send-found .last .0) (w .needed .last .1 .1 .0) (f .send-found .last .1 .1 .1 .1 .0) (f .send-found .result) (w .needed .result) e
-    (w .needed .ensures .0) (w .needed .ensures .1 .0) (w .needed .ensures .1 .1 .0) (f .send-found .ensures) in
+    (w .needed .ensures .0) (w .needed .ensures .1 .0) (w .needed .ensures .1 .1) (f .send-found .ensures) in
     ((logged-most (a .n) (a .b) (a .m) (a .log .now) u), (room-kept {j = 1024} (search needs) (omega (arith, used-most (a .n) (a .b) (a .m) (a .log .now) u, u .most)), h .waits))
 
 same-length : tie.Need-same-length
@@ -131,7 +131,7 @@ returns c =
     let l = readLog (a .m) (a .log .now) in
     let v = readVolume (a .n) (a .b) (a .server .now) in
     let h = counted (a .b) (a .k) (a .object) v l _ (f .send-found .last .0) (w .needed .last .1 .1 .0) (f .send-found .last .1 .1 .1 .1 .0) (f .send-found .result) (w .needed .result) e
-    (w .needed .ensures .0) (w .needed .ensures .1 .0) (w .needed .ensures .1 .1 .0) (f .send-found .ensures) in
+    (w .needed .ensures .0) (w .needed .ensures .1 .0) (w .needed .ensures .1 .1) (f .send-found .ensures) in
     stopped (a .b) (a .k) (a .program) (a .object) (a .m) v l (f .send-found .last .0) (f .send-found .last .1 .1 .1 .1 .0) (f .send-found .result) (w .needed .result) h (omega (arith, i .before .least .ensures, i .if1 .taken)) (g .free-sent .last .0) (g .free-sent .ensures)
 
 one-requires : tie.Need-one-requires
@@ -168,7 +168,7 @@ free-sent-requires-2 c κs =
     let l = readLog (a .m) (a .log .now) in
     let v = readVolume (a .n) (a .b) (a .server .now) in
     let h = counted (a .b) (a .k) (a .object) v l _ (f .send-found .last .0) (w .needed .last .1 .1 .0) (f .send-found .last .1 .1 .1 .1 .0) (f .send-found .result) (w .needed .result) e
-    (w .needed .ensures .0) (w .needed .ensures .1 .0) (w .needed .ensures .1 .1 .0) (f .send-found .ensures) in
+    (w .needed .ensures .0) (w .needed .ensures .1 .0) (w .needed .ensures .1 .1) (f .send-found .ensures) in
     let z = x .note .ensures .0 (a .object ∷ []) (at-one .one .ensures) in
     let r : length (f .send-found .last .1 .1 .1 .1 .0) ≡ 1024 = sym (slice-aggregate-free-sent-2 c) in
     let set = f .send-found .last .1 .1 .1 .1 .0 in
@@ -207,7 +207,7 @@ returns-2 c =
     let l = readLog (a .m) (a .log .now) in
     let v = readVolume (a .n) (a .b) (a .server .now) in
     let h = counted (a .b) (a .k) (a .object) v l _ (f .send-found .last .0) (w .needed .last .1 .1 .0) (f .send-found .last .1 .1 .1 .1 .0) (f .send-found .result) (w .needed .result) e
-    (w .needed .ensures .0) (w .needed .ensures .1 .0) (w .needed .ensures .1 .1 .0) (f .send-found .ensures) in
+    (w .needed .ensures .0) (w .needed .ensures .1 .0) (w .needed .ensures .1 .1) (f .send-found .ensures) in
     let z = x .note .ensures .0 (a .object ∷ []) (at-one .one .ensures) in
     carried (a .b) (a .k) (a .program) (a .object) (a .m) v l (f .send-found .last .0) (f .send-found .last .1 .1 .1 .1 .0) (f .send-found .result) (w .needed .result) h (omega (arith, i .before .least .ensures, i .if1 .left)) (c .if2 .taken) (g .free-sent2 .last .0)
     (freed (a .b) (a .k) (a .program) (a .object) (a .m) v l (f .send-found .last .0) (f .send-found .last .1 .1 .1 .1 .0) (f .send-found .result) (w .needed .result) h (a .log .now) (logged-most (a .n) (a .b) (a .m) (a .log .now) u) refl (t .pre .1 .1 .0) (x .note .last .0) z (g .free-sent2 .last .0) (g .free-sent2 .ensures))
@@ -228,7 +228,7 @@ discard-requires c κs =
     let l = readLog (a .m) (a .log .now) in
     let v = readVolume (a .n) (a .b) (a .server .now) in
     let h = counted (a .b) (a .k) (a .object) v l _ (f .send-found .last .0) (w .needed .last .1 .1 .0) (f .send-found .last .1 .1 .1 .1 .0) (f .send-found .result) (w .needed .result) e
-    (w .needed .ensures .0) (w .needed .ensures .1 .0) (w .needed .ensures .1 .1 .0) (f .send-found .ensures) in
+    (w .needed .ensures .0) (w .needed .ensures .1 .0) (w .needed .ensures .1 .1) (f .send-found .ensures) in
     let z = x .note .ensures .0 (a .object ∷ []) (at-one .one .ensures) in
     freed-logged (a .b) (a .k) (a .program) (a .object) (a .m) v l (f .send-found .last .0) (f .send-found .last .1 .1 .1 .1 .0) (f .send-found .result) (w .needed .result) h (a .log .now) (logged-most (a .n) (a .b) (a .m) (a .log .now) u) refl (t .pre .1 .1 .0) (x .note .last .0) z (g .free-sent2 .last .0) (g .free-sent2 .ensures)
 
@@ -257,7 +257,7 @@ returns-3 c =
     let l = readLog (a .m) (a .log .now) in
     let v = readVolume (a .n) (a .b) (a .server .now) in
     let h = counted (a .b) (a .k) (a .object) v l _ (f .send-found .last .0) (w .needed .last .1 .1 .0) (f .send-found .last .1 .1 .1 .1 .0) (f .send-found .result) (w .needed .result) e
-    (w .needed .ensures .0) (w .needed .ensures .1 .0) (w .needed .ensures .1 .1 .0) (f .send-found .ensures) in
+    (w .needed .ensures .0) (w .needed .ensures .1 .0) (w .needed .ensures .1 .1) (f .send-found .ensures) in
     let z = x .note .ensures .0 (a .object ∷ []) (at-one .one .ensures) in
     fell (a .b) (a .k) (a .program) (a .object) (a .m) v l (f .send-found .last .0) (f .send-found .last .1 .1 .1 .1 .0) (f .send-found .result) (w .needed .result) h (omega (arith, i .before .least .ensures, i .if1 .left)) (omega (arith, at-if2 .if2 .left)) (k .discard .last .0)
     (cut-after (a .b) (a .k) (a .program) (a .object) (a .m) v l (f .send-found .last .0) (f .send-found .last .1 .1 .1 .1 .0) (f .send-found .result) (w .needed .result) h (a .log .now) (logged-most (a .n) (a .b) (a .m) (a .log .now) u) refl (t .pre .1 .1 .0) (x .note .last .0) z (g .free-sent2 .last .0) (g .free-sent2 .ensures) (k .discard .last .0) (k .discard .ensures))

@@ -1,9 +1,10 @@
 -- What the code makes of the fields of a record, and within what limits they lie once they were read.
 use Prim.Native.Nat.{ℕ, _≤_, _<_}
 use mathlib.Core.Path.{_≡_}
-use mathlib.Core.List.{List, [], _∷_}
+use mathlib.Core.List.{List}
 use mathlib.Core.Bool.{false}
-use lib.ListN.{length, getD}
+use lib.ListN.{length}
+use Rattle.buffer.specs.declared.span.Span.{Span}
 use Rattle.buffer.specs.Code.Span.{stretch}
 use Rattle.record.specs.Operation.{Operation}
 use Rattle.record.specs.Fields.{objectsOf, operationOf}
@@ -13,14 +14,15 @@ use Rattle.record_reader.specs.declared.Names.{Names}
 use Rattle.record_reader.specs.declared.Range.{Range}
 use Rattle.record_reader.specs.Code.Found.{partsFrom}
 use Rattle.log_operands.specs.declared.Order.{Order}
-use Rattle.log_operands.specs.Code.Ordering.{operandsIn, Sized}
+use Rattle.log_operands.specs.Code.Ordering.{Small}
 
--- so many of fields 0 to 3, and no stretch
-abbrev pub plain : ℕ → Objects → Order
-plain n o =
+-- so many of fields 0 to 3, the objects of a part of the record, and no stretch
+abbrev pub plain : ℕ → Objects → Span → Order
+plain n o p =
     record {
       count = n;
-      list = o .object ∷ o .parent ∷ o .second ∷ o .displaced ∷ 0 ∷ 0 ∷ 0 ∷ 0 ∷ [];
+      objects = o;
+      listed = p;
       overwrite = false;
       offset = 0;
       len = 0;
@@ -30,18 +32,7 @@ plain n o =
 abbrev pub read : List ℕ → Head → Objects → Names → Range → Operation
 read s h o n g = operationOf (h .kind) (h .map) (partsFrom s o n g)
 
--- a list of at most 8 objects, each below 256
-pub record Few (t : List ℕ) : Type 0 where
-  pub count : length (objectsOf t) ≤ 8
-  pub small : (i : ℕ) → getD (objectsOf t) i 0 < 256
-
--- the objects of such a list, and no stretch
-pub record Gathered (t : List ℕ) (o : Order) : Type 0 where
-  pub objects : operandsIn o ≡ objectsOf t
-  pub plain : o .overwrite ≡ false
-  pub sized : Sized o
-
--- the limits of what was read: objects below 256, an offset of 4 bytes, at most 1,024 bytes of data, all there, a list as above
+-- the limits of what was read: objects below 256, an offset of 4 bytes, at most 1,024 bytes of data, all there, objects below 256 in a list
 pub record Limited (s : List ℕ) (o : Objects) (g : Range) : Type 0 where
   pub object : o .object < 256
   pub parent : o .parent < 256
@@ -50,4 +41,4 @@ pub record Limited (s : List ℕ) (o : Objects) (g : Range) : Type 0 where
   pub offset : g .offset < 4294967296
   pub len : g .content .len ≤ 1024
   pub whole : length (stretch s (g .content)) ≡ g .content .len
-  pub list : Few (stretch s (g .list))
+  pub list : Small (objectsOf (stretch s (g .list)))

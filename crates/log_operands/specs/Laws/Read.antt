@@ -4,17 +4,17 @@ use native.Mathlib.Omega.{arith}
 use mathlib.Core.Path.{_≡_, refl, sym, ap, _∙_, subst}
 use mathlib.Core.Bool.{Bool, true, false, _&&_, cond, and-eq-true-iff}
 use mathlib.Core.List.{List, [], _∷_, _++_}
-use mathlib.Core.Option.{none, some}
 use mathlib.Core.Logic.{_⊎_, inl, inr}
-use lib.ListN.{length, getD, drop, length-take}
+use lib.ListN.{length, drop, length-take}
 use lib.Dec.{leb}
 use borrow.Author.Tests.{leb-true}
 use Rattle.buffer.specs.declared.span.Span.{Span}
 use Rattle.buffer.specs.Numeral.{Bytes}
 use Rattle.buffer.specs.Code.Span.{span, stretch}
-use Rattle.record.specs.Operation.{Operation, createFile, makeDirectory, remove, rename, overwrite, append, setLength, forder, Record, mapOf}
+use Rattle.record.specs.Operation.{Operation, Record, mapOf}
+use Rattle.record.specs.Laws.Operation.{one-group}
 use Rattle.record.specs.Fields.{standsIn, numberIf, field, ifStands, between, allUpTo, different, validList, validObjects, validRange, valid, encode, objectsOf}
-use Rattle.record.specs.Laws.Record.{block-short, list-short}
+use Rattle.record.specs.Laws.Record.{block-short}
 use Rattle.record_reader.specs.declared.Place.{Place}
 use Rattle.record_reader.specs.declared.Field.the-variants.{Number}
 use Rattle.record_reader.specs.declared.Head.{Head}
@@ -38,20 +38,9 @@ use Rattle.record_reader.specs.Laws.SoundRecord.{number-went, part-went, no-ran
 use Rattle.record_reader.specs.Laws.Complete.{record-complete}
 use Rattle.record_reader.specs.Laws.Exact.{record-back}
 use Rattle.log_operands.specs.declared.Order.{Order}
-use Rattle.log_operands.specs.Code.Ordering.{Ordering}
-use Rattle.log_operands.specs.Code.Reading.{read, Few, Limited}
-
--- no operation has both names and fields 6 to 8
-one-group : (o : Operation) → ((standsIn (mapOf o) 16 ≡ false) × (standsIn (mapOf o) 32 ≡ false)) ⊎ ((standsIn (mapOf o) 64 ≡ false) × (standsIn (mapOf o) 128 ≡ false) × (standsIn (mapOf o) 256 ≡ false))
-one-group (createFile o p n) = inr (refl, refl, refl)
-one-group (makeDirectory o p n) = inr (refl, refl, refl)
-one-group (remove o p n) = inr (refl, refl, refl)
-one-group (rename o p q none n m) = inr (refl, refl, refl)
-one-group (rename o p q (some d) n m) = inr (refl, refl, refl)
-one-group (overwrite o f b) = inl (refl, refl)
-one-group (append o f b) = inl (refl, refl)
-one-group (setLength o f) = inl (refl, refl)
-one-group (forder l) = inl (refl, refl)
+use Rattle.log_operands.specs.Code.Ordering.{Ordering, Small}
+use Rattle.log_operands.specs.Code.Reading.{read, Limited}
+use Rattle.log_operands.specs.Laws.Order.{unlisted}
 
 module _ (s : List ℕ) (m at : ℕ) where
   -- names that are absent take no bytes
@@ -83,29 +72,20 @@ below-if : (b : Bool) (least v w : ℕ) → ifStands b (between least 255 v) ≡
 below-if true least v w h e = let k = leb-true v 255 (and-eq-true-iff (leb least v) (leb v 255) .0 h .1) in omega arith
 below-if false least v w h e = omega arith
 
-all-small : (l : List ℕ) → allUpTo 255 l ≡ true → (i : ℕ) → getD l i 0 < 256
+all-small : (l : List ℕ) → allUpTo 255 l ≡ true → Small l
 unfolding allUpTo
 all-small [] h i = omega arith
 all-small (o ∷ l) h zero = omega (arith, leb-true o 255 (and-eq-true-iff (leb o 255) (allUpTo 255 l) .0 h .0))
 all-small (o ∷ l) h (suc i) = all-small l (and-eq-true-iff (leb o 255) (allUpTo 255 l) .0 h .1) i
 
--- a valid list is one of at most 8 objects below 256, and so is none
-few-valid : (t : List ℕ) → validList (objectsOf t) ≡ true → Few t
+-- a valid list has objects below 256, and so has none
+small-valid : (l : List ℕ) → validList l ≡ true → Small l
 unfolding validList
-few-valid t h =
-    let l = objectsOf t in
-    record {
-      count = list-short l h;
-      small = all-small l (and-eq-true-iff (allUpTo 255 l) (different l) .0 (and-eq-true-iff (between 1 8 (length l)) (allUpTo 255 l && different l) .0 h .1) .0);
-    }
+small-valid l h = all-small l (and-eq-true-iff (allUpTo 255 l) (different l) .0 (and-eq-true-iff (between 1 8 (length l)) (allUpTo 255 l && different l) .0 h .1) .0)
 
-few-none : (s : List ℕ) → Few (stretch s (span 0 0))
-unfolding objectsOf
-few-none s = record { count = omega arith; small = λ i. omega arith }
-
-few-read : (s : List ℕ) (b : Bool) (at n : ℕ) (p : Span) → ifStands b (validList (objectsOf (stretch s p))) ≡ true → spanIf b at n ≡ p → Few (stretch s p)
-few-read s true at n p h e = few-valid (stretch s p) h
-few-read s false at n p h e = subst (λ (x : Span). Few (stretch s x)) e (few-none s)
+small-read : (s : List ℕ) (b : Bool) (at n : ℕ) (p : Span) → ifStands b (validList (objectsOf (stretch s p))) ≡ true → spanIf b at n ≡ p → Small (objectsOf (stretch s p))
+small-read s true at n p h e = small-valid (objectsOf (stretch s p)) h
+small-read s false at n p h e = subst (λ (x : Span). Small (objectsOf (stretch s x))) e (unlisted s)
 
 -- the data that were read are all there, and at most 1,024 bytes
 block-read : (s : List ℕ) (b : Bool) (p : Span) → ifStands b (between 1 1024 (length (stretch s p))) ≡ true → length (field b (stretch s p)) ≡ p .len
@@ -152,7 +132,7 @@ module _ (s : List ℕ) (byte : Bytes s) (m : ℕ) where
         offset = range-offset b g t eg;
         len = d .1;
         whole = d .0;
-        list = few-read s (standsIn m 256) _ _ (g .list) (w .1) (ap (λ (z : Range). z .list) (y .answered 0 0 0 0 [] []));
+        list = small-read s (standsIn m 256) _ _ (g .list) (w .1) (ap (λ (z : Range). z .list) (y .answered 0 0 0 0 [] []));
       }
 
 -- what stands of a valid record once its head and objects were read: its range, found where names would begin, and its operation
@@ -220,9 +200,9 @@ module _ (s : List ℕ) (r : Record) (rest : List ℕ) (good : valid r ≡ true)
 
   -- and what is told of what was read, whatever the names are, is told of the record's operation
   pub told-read : (h : Head) (p : Place) (o : Objects) (q : Place) (g : Range) (t : Place) (x : Order) → headAt s 0 ≡ HeadIs h p → objectsAt (h .map) s (p .at) ≡ ObjectsAre o q
-      → rangeAt (h .map) s (q .at) ≡ RangeIs g t → ((n : Names) → Ordering (read s h o n g) x) → Ordering (r .operation) x
+      → rangeAt (h .map) s (q .at) ≡ RangeIs g t → ((n : Names) → Ordering s (read s h o n g) x) → Ordering s (r .operation) x
   told-read h p o q g t x e f k tell =
       let w = passed h p o q e f in
       let a = w .there in
       let z : g ≡ w .range = cc in
-      subst (λ (y : Operation). Ordering y x) (w .operation) (rw z at (tell (w .names)))
+      subst (λ (y : Operation). Ordering s y x) (w .operation) (rw z at (tell (w .names)))

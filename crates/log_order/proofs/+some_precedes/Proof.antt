@@ -17,15 +17,15 @@ use Rattle.log_order.proofs.run_precedes.Reads as run-precedes
 use Rattle.log_order.proofs.+some_precedes.{statement}
 use Rattle.log_order.proofs.+some_precedes.Tie.{close}
 
-abbrev μ : Measures 1 kinds.ps ℕ
+abbrev μ : Measures 2 kinds.ps ℕ
 μ κs a = a .1 .0
 
 -- what the function is given at the measure t, what a call of it asks below t, and what is known of all calls
-abbrev at : ℕ → In 1 kinds.ps
-at t = and 1 kinds.ps (is 1 kinds.ps μ t) some-precedes.Pre
+abbrev at : ℕ → In 2 kinds.ps
+at t = and 2 kinds.ps (is 2 kinds.ps μ t) some-precedes.Pre
 
-abbrev below : ℕ → In 1 kinds.ps
-below t = and 1 kinds.ps (falls 1 kinds.ps _<_ μ t) some-precedes.Pre
+abbrev below : ℕ → In 2 kinds.ps
+below t = and 2 kinds.ps (falls 2 kinds.ps _<_ μ t) some-precedes.Pre
 
 abbrev claims : ℕ → lts.Claims
 claims t = (run-start.Asked, run-start.Learnt, run-precedes.Asked, run-precedes.Learnt, below t, some-precedes.Post)

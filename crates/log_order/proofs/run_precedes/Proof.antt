@@ -7,18 +7,18 @@ use lib.Seq.{slice, slice-empty}
 use Rattle.record.specs.Operation.{Operation}
 use Rattle.volume_tree.specs.Laws.Answer.{settled}
 use Rattle.log.specs.Code.Slots.{slotsIn}
-use Rattle.log_operands.specs.Code.Ordering.{Ordering}
+use Rattle.log_touch.specs.Code.Later.{Later}
 use Rattle.log_order.specs.Code.Candidates.{someBefore}
 use Rattle.log_order.specs.Laws.Precede.{some-none, run-next}
 use Rattle.log_order.proofs.run_precedes.Statement.{statement}
 use Rattle.log_order.proofs.run_precedes.Tie as tie
 
 abbrev Inv-loop : tie.InvT-loop
-Inv-loop s from to b j₀ j =
-    (j ≤ to) × ((q : Operation) → Ordering q b → someBefore q (slice from to (slotsIn s)) ≡ someBefore q (slice j to (slotsIn s)))
+Inv-loop s from to set overwrite offset len j₀ j =
+    (j ≤ to) × ((q : Operation) → Later q set overwrite offset len → someBefore q (slice from to (slotsIn s)) ≡ someBefore q (slice j to (slotsIn s)))
 
 abbrev μ-loop : tie.MeasureT-loop
-μ-loop s from to b j₀ j = to - j
+μ-loop s from to set overwrite offset len j₀ j = to - j
 
 loop-holds : tie.Need-loop-holds Inv-loop μ-loop
 loop-holds c = let p = c .before .pre in (p .1 .0, λ q tell. refl)

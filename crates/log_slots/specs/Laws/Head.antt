@@ -2,27 +2,16 @@
 use Prim.Native.Nat.{ℕ, _+_, _*_, _-_, _%_, _≤_, _<_}
 use native.Mathlib.Nat.{add-zero}
 use native.Mathlib.Omega.{arith}
-use mathlib.Core.Path.{_≡_, refl, sym, ap, ap₂, _∙_}
+use mathlib.Core.Path.{_≡_, sym, ap, ap₂, _∙_}
 use mathlib.Core.Bool.{true}
 use mathlib.Core.List.{List, _++_}
 use lib.ListN.{length, getD, take, drop, replicate, getD-replicate}
 use lib.Seq.{getD-take, getD-drop, drop-drop}
-use Rattle.buffer.specs.Numeral.{bytes}
-use Rattle.buffer.specs.Patch.{patch}
-use Rattle.log.specs.Slot.{State, waiting, lost, stateNumber, Slot, Log, withNext, withMarks, withSlots, goodSlots}
+use Rattle.log.specs.Slot.{State, waiting, lost, stateNumber, Slot, Log, withSlots, goodSlots}
 use Rattle.log.specs.Stored.{headBytes, slotBytes, encodeSlots, encodeLog, readLog}
 use Rattle.log.specs.Laws.Stored.{slot-state}
 use Rattle.log.specs.Laws.Geometry.{used-slots, used-slotted, free-part, slot-stored, slots-replaced, slots-fewer}
 use Rattle.log.specs.Code.Slots.{slotsIn, slotPart, slotAt, Slotted, Logged, usedIn, usedPart}
-
--- Another next number, and other marks, are 4 bytes put at their place.
-pub next-put : (m v : ℕ) (l : Log) → patch (encodeLog m l) 0 (bytes 4 v) ≡ encodeLog m (withNext v l)
-unfolding encodeLog bytes patch
-next-put m v l = refl
-
-pub marks-put : (m v : ℕ) (l : Log) → patch (encodeLog m l) 4 (bytes 4 v) ≡ encodeLog m (withMarks v l)
-unfolding encodeLog bytes patch
-marks-put m v l = refl
 
 -- the bytes behind a log's head that are lent on as so many slots
 abbrev pub lentPart : ℕ → List ℕ → List ℕ

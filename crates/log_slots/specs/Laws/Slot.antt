@@ -14,10 +14,9 @@ use Rattle.buffer.specs.Patch.{patch}
 use Rattle.record.specs.Operation.{Record}
 use Rattle.record.specs.Fields.{encode, headBytes, between, validHead, valid}
 use Rattle.record.specs.Laws.Record.{valid-inv}
-use Rattle.volume_entry.specs.Stored.{padded}
 use Rattle.volume_entry.specs.Laws.Write.{patch-inside}
 use Rattle.log.specs.Slot.{State, waiting, lost, stateNumber, Slot, withState, withDependents, isWaiting, sequenceOf}
-use Rattle.log.specs.Stored.{slotBytes, dependentsAt, recordStart, recordBytes, encodeSlot, encodeSlots}
+use Rattle.log.specs.Stored.{slotBytes, dependentsAt, recordStart, encodeSlot, encodeSlots}
 use Rattle.log.specs.Laws.Stored.{length-slot, slot-state}
 use Rattle.log.specs.Laws.Geometry.{good-at, slotted-length, slot-stored, slot-set}
 use Rattle.log.specs.Code.Slots.{slotsIn, slotAt, Slotted}
@@ -46,17 +45,13 @@ head-limits r h =
     let z = and-eq-true-iff (leb 0 (r .program)) (leb (r .program) 31) .0 (x .1) in
     (omega (arith, leb-true (r .sequence) 4294967294 (y .1)), omega (arith, leb-true (r .program) 31 (z .1)))
 
--- The state, the loss record, its sequence number and its program in a slot's bytes.
+-- The state, and the record's sequence number and program, in a slot's bytes.
 pub state-held : (s : Slot) → eqb (getD (encodeSlot s) 0 0) 1 ≡ isWaiting s
 state-held s = ap (λ (k : ℕ). eqb k 1) (slot-state s) ∙ go (s .state)
   where
     go : (t : State) → eqb (stateNumber t % 256) 1 ≡ eqb (stateNumber t) 1
     go waiting = refl
     go lost = refl
-
-pub record-held : (s : Slot) → drop recordStart (encodeSlot s) ≡ padded recordBytes (encode (s .recorded))
-unfolding encodeSlot bytes
-record-held s = refl
 
 pub sequence-held : (s : Slot) → valid (s .recorded) ≡ true → numeral (take 4 (drop (recordStart + 2) (encodeSlot s))) ≡ sequenceOf s
 unfolding encodeSlot bytes encode headBytes

@@ -1,28 +1,35 @@
 -- What the loops over operands come to, and what a byte that is set to 1 does to a set of objects.
-use Prim.Native.Nat.{ℕ, suc, _+_, _≤_, _<_}
+use Prim.Native.Nat.{ℕ, suc, _+_, _<_}
 use native.Mathlib.Numerals.{add-one}
-use native.Mathlib.Omega.{arith}
-use mathlib.Core.Path.{_≡_, refl}
+use mathlib.Core.Path.{_≡_, refl, sym}
 use mathlib.Core.List.{List, [], _∷_, _++_}
-use mathlib.Core.Bool.{Bool, true, false, _||_}
-use lib.ListN.{length, getD, set, drop, replicate}
-use lib.Seq.{drop-cons, drop-length, getD-take, length-take-le, getD-set-same, getD-set-other}
+use mathlib.Core.Bool.{Bool, true, false, _||_, or-assoc, or-false}
+use lib.ListN.{length, getD, set, take, drop, replicate}
+use lib.Seq.{drop-cons, drop-length, getD-set-same, getD-set-other}
 use lib.Dec.{eqb}
 use borrow.Author.Tests.{eqb-true, eqb-false}
 use Rattle.buffer.specs.Laws.Zero.{zeros-at}
 use Rattle.record.specs.Fields.{member}
 use Rattle.log.specs.Order.{shares}
 use Rattle.log.specs.Code.Flags.{Holds}
-use Rattle.log_operands.specs.declared.Order.{Order}
-use Rattle.log_operands.specs.Code.Ordering.{operandsIn}
 
--- how many operands are told
-pub told-length : (o : Order) → length (o .list) ≡ 8 → o .count ≤ 8 → length (operandsIn o) ≡ o .count
-told-length o long few = length-take-le (o .count) (o .list) (omega arith)
+-- of so many numbers of a list the first is asked, then the others
+module _ (n : ℕ) (k l : List ℕ) where
+  pub none-of : n ≡ 0 → shares (take n k) l ≡ false
+  unfolding shares
+  none-of e = rw e
 
--- the operands that are told, one by one
-pub told-at : (o : Order) (i : ℕ) → i < o .count → getD (operandsIn o) i 0 ≡ getD (o .list) i 0
-told-at o i h = getD-take (o .count) (o .list) i 0 h
+  pub first-of : (m a : ℕ) (t : Bool) → n ≡ suc m → t ≡ member a l → t ≡ true → shares (take n (a ∷ k)) l ≡ true
+  unfolding shares
+  first-of m a t e f g = rw (e, ← f, g)
+
+  pub others-of : (m a : ℕ) (t : Bool) → n ≡ suc m → t ≡ member a l → t ≡ false → shares (take n (a ∷ k)) l ≡ shares (take m k) l
+  unfolding shares
+  others-of m a t e f g = rw (e, ← f, g)
+
+  pub last-of : (a : ℕ) → n ≡ 1 → shares (take n (a ∷ k)) l ≡ member a l
+  unfolding shares
+  last-of a e = rw (e, or-false)
 
 -- one step of a loop that looks for a common object
 module _ (k l : List ℕ) (i : ℕ) where
@@ -37,6 +44,12 @@ module _ (k l : List ℕ) (i : ℕ) where
   pub shares-end : i ≡ length k → shares (drop i k) l ≡ false
   unfolding shares
   shares-end e = rw (e, drop-length k)
+
+-- objects in front of others share one if they do, or the others
+pub shares-front : (k m l : List ℕ) → shares (k ++ m) l ≡ (shares k l || shares m l)
+unfolding shares
+shares-front [] m l = refl
+shares-front (o ∷ k) m l = rw (shares-front k m l) (sym (or-assoc (member o l) (shares k l) (shares m l)))
 
 -- a set of zeros holds nothing
 pub holds-none : (k : ℕ) → Holds (replicate k 0) []

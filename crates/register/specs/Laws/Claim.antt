@@ -25,12 +25,14 @@ use Rattle.session.specs.Call.{Geometry, Buffers, Call, fsync, push, take as ta
 use Rattle.session.specs.Model.{Model, mountedModel, toldOf}
 use Rattle.log.specs.Sends.{applying}
 use Rattle.session.specs.Send.{fsyncOf}
+use Rattle.session.specs.Told.{Told}
+use Rattle.session.specs.Issue.{issues}
 use Rattle.session.specs.Effect.{Effect, note, issue, send, sends, issuing, perform, acceptedEffects, refusedEffects, effectsOf}
 use Rattle.session.specs.Step.{answerOf, effectsIn, step, mount, decodeModel}
 use Rattle.session.specs.Laws.Possible.{Sendable}
 use Rattle.session.specs.Laws.Ready.{Ready, needed-ready, ready-take, first-sent}
 use Rattle.session.specs.Laws.Call.{push-accepted}
-use Rattle.session.specs.Laws.Answer.{Damaged, byPush, bySync, damaged-why, push-passes, change-answered, sync-answered, link-answered}
+use Rattle.session.specs.Laws.Answer.{Damaged, byPush, bySync, damaged-why, push-passes, change-answered, issues-alters, sync-answered, link-answered}
 use Rattle.session.specs.Laws.Step.{step-holds}
 use Rattle.register.specs.Replay.{replay}
 use Rattle.register.specs.Register.{Register, begun, Acknowledged, isWaiting, isSent, chosen, sentIn, waitingIn, neededFor, acknowledged, sending, happen, happenAll}
@@ -42,7 +44,7 @@ use Rattle.register.specs.Laws.Fate.{Among, waits, no-both, or-true, sen
 use Rattle.register.specs.Laws.Invariant.{Kept, Good}
 use Rattle.register.specs.Laws.Operation.{numbers-rise, in-map}
 use Rattle.register.specs.Laws.Kept.{server-replayed, view-replayed, waiting-same, sent-applies, waiting-logged}
-use Rattle.register.specs.Laws.Good.{good-applies}
+use Rattle.register.specs.Laws.Good.{good-applies, told-same}
 use Rattle.register.specs.Laws.Precedes.{precedes-sent, unpreceded, needs-exact}
 use Rattle.register.specs.Laws.Since.{since-same, since-then, sent-since}
 use Rattle.register.specs.Laws.Fetch.{begun-fetched}
@@ -151,18 +153,21 @@ module _ (g : Geometry) (v : Volume) where
       let s = m .before in
       let told : (n : ℕ) → m .answer .returned ≡ n → answerOf g (m .call) x .returned ≡ n = λ n e. ap (λ (a : Answer). a .returned) (sym (k .answer)) ∙ e in
       record {
-        change = λ al e.
-            let c = change-answered g x (k .led .good .kept .sound) (m .call) al (told 0 e) in
+        change = λ o os is e.
+            let c = change-answered g x (k .led .good .kept .sound) (m .call) (issues-alters _ (m .call) o os is) (told 0 e) in
             let f = first-issued (c .program) (c .first) (c .others) (s .register) in
             record {
               first = f .0;
               others = f .1;
               added =
                   ap (λ (z : Register). z .operations)
-                  (led-fed g v s x (k .led) (m .call) ∙ ap (λ (es : List Effect). happenAll es (s .register)) (accepted-effects g (m .call) x (told 0 e) ∙ c .effects))
+                  (led-fed g v s x (k .led) (m .call) ∙ ap (λ (es : List Effect). happenAll es (s .register)) (accepted-effects g (m .call) x (told 0 e) ∙ c .effects ∙ ap (issuing (c .program)) (c .issued)))
                   ∙ f .2;
               told = ap (λ (a : Answer). a .results) (k .answer) ∙ c .results ∙ ap (λ (n : ℕ). n ∷ []) (k .led .good .kept .next ∙ sym (f .3));
             };
+        issued = λ al e.
+            let c = change-answered g x (k .led .good .kept .sound) (m .call) al (told 0 e) in
+            (c .first, c .others, ap (λ (t : Told). issues t (m .call)) (told-same g (s .register) x (k .led .good)) ∙ c .issued);
         sync = λ p o j is e. sync-told p o j is (told 0 e);
         link = λ p o j is e. link-told p o j is (told Returned.linkLost e);
       }
@@ -237,7 +242,7 @@ demand g s v m cs =
           could g v (n .before) (t .model) (t .led) r
           (since-then (n .before .register) (next g (n .call) (n .before) .register) r (next-since g v (n .before) (t .model) (t .led) (n .call)) (t .since)) set c;
       canBeSent = λ set c. could g v (play g s v cs .last) x l r (since-same r) set c;
-      marked = λ y e p lt. subst (λ (z : Model). (holds (z .log .marks) p ≡ true) ↔ Marked r p) (same y e) (l .known .depended .marks p lt);
+      marked = λ y e p lt. subst (λ (z : Model). (holds (z .log .head .marks) p ≡ true) ↔ Marked r p) (same y e) (l .known .depended .marks p lt);
       fetched = λ p. (map encode (lossesOf p (x .log .slots)), held p);
       fetchedOnce = λ p. distinct-prefix (fetchedBy p (play g s v cs .moments)) (map encode (lossesOf p (x .log .slots))) (subst Distinct (held p) (fetched-distinct (r .operations) p rise valid-all));
       fetchedAll = λ p own e.

@@ -37,7 +37,7 @@ pub record Depended (r : Register) (l : Log) : Type 0 where
   pub dependents :
       (s : Slot) (a : Acknowledged) → List·Memᴰ s (l .slots) → slotWaits s ≡ true → Among a (r .operations) → isWaiting a ≡ true → a .recorded ≡ s .recorded → (p : ℕ) → p < 32
       → (holds (s .dependents) p ≡ true) ↔ Depends r p a
-  pub marks : (p : ℕ) → p < 32 → (holds (l .marks) p ≡ true) ↔ Marked r p
+  pub marks : (p : ℕ) → p < 32 → (holds (l .head .marks) p ≡ true) ↔ Marked r p
 
 mem-end : {A : Type 0} (l : List A) (a : A) → List·Memᴰ a (l ++ (a ∷ []))
 mem-end l a = Memᴰ·append-right l (List·Memᴰ·head refl)
@@ -65,7 +65,7 @@ module _ (r : Register) (timed : Timed (r .operations) (r .happened)) (known : R
   module _ (s : Register) (h : Acknowledged → Acknowledged) (n : Renamed r s h) where
     -- the marks are the same where nobody is lost now and the program does not renew
     marks-kept : (p : ℕ) → p < 32 → ((z : Renewal) → List·Memᴰ z (s .renewals) → z .program ≡ p → List·Memᴰ z (r .renewals))
-        → ((a : Acknowledged) → isWaiting a ≡ true → h a .fate ≡ lost (r .happened) → ⊥) → (holds (l .marks) p ≡ true) ↔ Marked s p
+        → ((a : Acknowledged) → isWaiting a ≡ true → h a .fate ≡ lost (r .happened) → ⊥) → (holds (l .head .marks) p ≡ true) ↔ Marked s p
     marks-kept p lt old none =
         let e = d .marks p lt in (
           λ y. marked-to r s h timed known n p old (e .0 y),
@@ -133,7 +133,7 @@ module _ (r : Register) (timed : Timed (r .operations) (r .happened)) (known : R
 
     module _ (numbers : NumberedFrom 1 (r .operations)) where
       -- one more operation, waiting, on which its issuer alone depends
-      pub issue-depended : l .next ≡ length (r .operations) + 1 → (p : ℕ) (o : Operation) → Depended (happen (issue p o) r) (Change.issue p o l)
+      pub issue-depended : l .head .next ≡ length (r .operations) + 1 → (p : ℕ) (o : Operation) → Depended (happen (issue p o) r) (Change.issue p o l)
       unfolding happen Change.issue
       issue-depended number p o =
           record {
@@ -161,7 +161,7 @@ module _ (r : Register) (timed : Timed (r .operations) (r .happened)) (known : R
           a = acknowledged p o r
 
           one : Record
-          one = record { sequence = l .next; program = p; operation = o }
+          one = record { sequence = l .head .next; program = p; operation = o }
 
           s : Register
           s = happen (issue p o) r
@@ -257,10 +257,10 @@ module _ (r : Register) (timed : Timed (r .operations) (r .happened)) (known : R
           dependents = λ x b mx wx mb wb is p lt. absurd (List·Memᴰ·not-nil (mem-by (discard-waiting l) (in-waiting (Change.discard l .slots) mx wx)));
           marks = λ p lt.
               let e = discard-marks l p lt in (
-                λ y. ⊎-elim (λ (z : holds (l .marks) p ≡ true). marked-to r s (losing (r .happened)) timed known n p (λ k m q. m) (d .marks p lt .0 z))
+                λ y. ⊎-elim (λ (z : holds (l .head .marks) p ≡ true). marked-to r s (losing (r .happened)) timed known n p (λ k m q. m) (d .marks p lt .0 z))
                     (λ (z : any (dependsOn p) (l .slots) ≡ true). marked-new p lt (any-in (dependsOn p) (l .slots) z))
-                    (or-cases (holds (l .marks) p) (any (dependsOn p) (l .slots)) (sym e ∙ y)),
-                λ y. e ∙ ⊎-elim (λ (m : Marked r p). or-left (holds (l .marks) p) (any (dependsOn p) (l .slots)) (d .marks p lt .1 m)) (bit p lt)
+                    (or-cases (holds (l .head .marks) p) (any (dependsOn p) (l .slots)) (sym e ∙ y)),
+                λ y. e ∙ ⊎-elim (λ (m : Marked r p). or-left (holds (l .head .marks) p) (any (dependsOn p) (l .slots)) (d .marks p lt .1 m)) (bit p lt)
                     (marked-from r s (losing (r .happened)) timed known n p y),
               );
         }
@@ -307,12 +307,12 @@ module _ (r : Register) (timed : Timed (r .operations) (r .happened)) (known : R
             }
 
         bit : (p : ℕ) → p < 32 → Discards r s (losing (r .happened)) p
-            → (holds (l .marks) p || any (dependsOn p) (l .slots)) ≡ true
+            → (holds (l .head .marks) p || any (dependsOn p) (l .slots)) ≡ true
         bit p lt y =
             let a = y .on in
             let u = waiting-in (l .slots) (mem-by (sym same) (record-in (picked isWaiting (r .operations)) a (there-picked recordedOf isWaiting (r .operations) a (y .among) (y .waited)))) in
             let b = slot-kept s (losing (r .happened)) n (λ t m. m) (u .0) a (u .1) (u .2) (y .among) (y .waited) (u .3) p lt .1 (y .depends) in
-            or-right (holds (l .marks) p) (any (dependsOn p) (l .slots)) (in-any (dependsOn p) (l .slots) (u .1) (and-eq-true-iff (slotWaits (u .0)) (holds (u .0 .dependents) p) .1 (u .2, b)))
+            or-right (holds (l .head .marks) p) (any (dependsOn p) (l .slots)) (in-any (dependsOn p) (l .slots) (u .1) (and-eq-true-iff (slotWaits (u .0)) (holds (u .0 .dependents) p) .1 (u .2, b)))
 
   -- a loss is fetched: its slot did not wait
   pub take-depended : (p : ℕ) → Depended (happen (take p) r) (Change.taken p l)
@@ -343,15 +343,15 @@ module _ (r : Register) (timed : Timed (r .operations) (r .happened)) (known : R
       n : Renamed r s (λ a. a)
       n = same-renamed r s refl (λ t m. m) (λ t m. inl m) (λ z m. Memᴰ·append-left (own ∷ []) m)
 
-      go : (q : ℕ) → q < 32 → (b : Bool) → eqb p q ≡ b → (holds (Change.renewed p l .marks) q ≡ true) ↔ Marked s q
+      go : (q : ℕ) → q < 32 → (b : Bool) → eqb p q ≡ b → (holds (Change.renewed p l .head .marks) q ≡ true) ↔ Marked s q
       go q lt true e = (
-        λ y. no-both (holds (Change.renewed p l .marks) q) y (renewed-marks p q l ∙ ap (λ (b : Bool). not b && holds (l .marks) q) e),
+        λ y. no-both (holds (Change.renewed p l .head .marks) q) y (renewed-marks p q l ∙ ap (λ (b : Bool). not b && holds (l .head .marks) q) e),
         λ m.
             let x = m .renewed own (mem-end (r .renewals) own) (eqb-true p q e) in
             let y = timed .past (m .on) (m .time) (m .acknowledged) (m .discarded) in absurd (omega arith),
       )
       go q lt false e =
-          let on : holds (Change.renewed p l .marks) q ≡ holds (l .marks) q = renewed-marks p q l ∙ ap (λ (b : Bool). not b && holds (l .marks) q) e in
+          let on : holds (Change.renewed p l .head .marks) q ≡ holds (l .head .marks) q = renewed-marks p q l ∙ ap (λ (b : Bool). not b && holds (l .head .marks) q) e in
           let k =
           marks-kept s (λ a. a) n q lt
           (λ z mz i. ⊎-elim (λ (x : List·Memᴰ z (r .renewals)). x)

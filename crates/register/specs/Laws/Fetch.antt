@@ -200,9 +200,9 @@ module _ (g : Geometry) (r : Register) (x : Model) (k : Good g r x) (done : ℕ 
       (subst (λ (y : Model). Fetched ops (y .log .slots) done) (ap (λ (o : Option Record). sentFound o x) (sym (h .1 .found)))
       (fetched-log ops (x .log .slots) done gone slots (λ p. sent-lost p (rec .sequence) (x .log .slots))))
   effect-fetched discard h =
-      let order = rising-inv (x .log .next) (x .log .slots) (formed-inv (g .objects) (g .blocks) (g .capacity) (x .log) (k .kept .sound .log) .order) in
+      let order = rising-inv (x .log .head .next) (x .log .slots) (formed-inv (g .objects) (g .blocks) (g .capacity) (x .log) (k .kept .sound .log) .order) in
       none-fetched (map (losing (r .happened)) (r .operations)) (map discarded (x .log .slots)) discard (λ q. refl)
-      (fetched-cut (r .operations) (x .log .slots) done f (r .happened) (x .log .next) order (k .kept .waiting))
+      (fetched-cut (r .operations) (x .log .slots) done f (r .happened) (x .log .head .next) order (k .kept .waiting))
   effect-fetched (take p) h =
       let slots = removed (isLossOf p) (x .log .slots) in
       fetched-same (r .operations) slots (λ n. done n ++ cond (eqb p n) (h .0 ∷ []) []) (fetched-take (r .operations) (x .log .slots) done f p (h .0) (h .1)) (more (take p))

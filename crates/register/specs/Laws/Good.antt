@@ -1,5 +1,5 @@
 -- Register and model go together as an accepted mount leaves them, and over every list of effects that may take place.
-use Prim.Native.Nat.{ℕ, _+_}
+use Prim.Native.Nat.{ℕ}
 use native.Mathlib.Omega.{arith}
 use mathlib.Core.Path.{_≡_, refl, sym, ap, _∙_, subst}
 use mathlib.Core.List.{List, [], _∷_, map, List·Memᴰ, List·Memᴰ·not-nil}
@@ -17,7 +17,7 @@ use Rattle.session.specs.Call.{Geometry, Call, Answer}
 use Rattle.session.specs.Model.{Model, toldOf}
 use Rattle.session.specs.Effect.{Effect, note, issue, send, discard, take, renew, sentFound, perform, performAll, effectsOf}
 use Rattle.session.specs.Laws.Possible.{Sound, Sendable, Possible, AllPossible}
-use Rattle.register.specs.Register.{Register, Touch, Renewal, Acknowledged, isWaiting, isSent, begun, toldBy, sending, acknowledged, withOperations, later, happen, happenAll}
+use Rattle.register.specs.Register.{Register, Acknowledged, isWaiting, isSent, begun, toldBy, sending, acknowledged, withOperations, later, happen, happenAll}
 use Rattle.register.specs.Claim.{recordedOf}
 use Rattle.register.specs.Laws.Fate.{isLive}
 use Rattle.register.specs.Laws.Invariant.{Good}
@@ -60,15 +60,17 @@ module _ (g : Geometry) (r : Register) (x : Model) (k : Good g r x) where
       let w = free-of g r x (k .kept) q m none in
       subst (λ (z : Record). applies (x .server) (z .operation) ≡ true) (w .1) (free-applies g r x (k .kept) (w .0) (w .2))
 
-  -- the effects of a call told from the register are those told from the model
+  -- the register tells what the model tells, and so the effects of a call
+  pub told-same : toldBy r ≡ toldOf x
+  told-same = λ i. record { view = view-replayed g r x (k .kept) i; waiting = waiting-same g r x (k .kept) i }
+
   pub feed-effects : (c : Call) (a : Answer) → effectsOf c a (toldBy r) ≡ effectsOf c a (toldOf x)
-  feed-effects c a = λ i. effectsOf c a (record { view = view-replayed g r x (k .kept) i; waiting = waiting-same g r x (k .kept) i })
+  feed-effects c a = ap (effectsOf c a) told-same
 
   -- an effect that sends, issues and discards nothing
-  same-good : (t : List Touch) (n : List Renewal) (y : Model) → Sound g y → y .server ≡ x .server → y .view ≡ x .view → y .log .next ≡ x .log .next
-      → waitingOf (y .log .slots) ≡ waitingOf (x .log .slots)
-      → Good g (record { mounted = r .mounted; operations = r .operations; touches = t; renewals = n; happened = r .happened + 1 }) y
-  same-good t n y s es ev en ew = record { kept = same-kept g r x (k .kept) t n (r .happened + 1) y s es ev en ew; timed = timed-on (r .operations) (r .happened) (k .timed) }
+  same-good : (y : Model) → Sound g y → y .server ≡ x .server → y .view ≡ x .view → y .log .head .next ≡ x .log .head .next
+      → waitingOf (y .log .slots) ≡ waitingOf (x .log .slots) → Good g (later r) y
+  same-good y s es ev en ew = record { kept = same-kept g r x (k .kept) y s es ev en ew; timed = timed-on (r .operations) (r .happened) (k .timed) }
 
   -- the send of a waiting operation that no waiting one directly precedes
   free-good : (a : Acknowledged) → Free (r .operations) a → Sound g (sentFound (some (a .recorded)) x)
@@ -87,7 +89,7 @@ module _ (g : Geometry) (r : Register) (x : Model) (k : Good g r x) where
   -- register and model go together after each effect that may take place
   pub effect-good : (e : Effect) → Possible g x e → Sound g (perform e x) → Good g (happen e r) (perform e x)
   unfolding perform happen
-  effect-good (note p ops) h s = same-good _ _ (perform (note p ops) x) s refl refl refl (noted-waiting p ops (x .log .slots))
+  effect-good (note p ops) h s = same-good (perform (note p ops) x) s refl refl refl (noted-waiting p ops (x .log .slots))
   effect-good (issue p o) h s =
       record {
         kept = issue-kept g r x (k .kept) p o h s;
@@ -95,8 +97,8 @@ module _ (g : Geometry) (r : Register) (x : Model) (k : Good g r x) where
       }
   effect-good (send q) h s = send-good q (h .0) (h .1) s
   effect-good discard h s = record { kept = cut-kept g r x (k .kept) (r .happened) s; timed = timed-cut (r .operations) (r .happened) (k .timed) }
-  effect-good (take p) h s = same-good _ _ (perform (take p) x) s refl refl refl (taken-waiting p (x .log))
-  effect-good (renew p) h s = same-good _ _ (perform (renew p) x) s refl refl refl refl
+  effect-good (take p) h s = same-good (perform (take p) x) s refl refl refl (taken-waiting p (x .log))
+  effect-good (renew p) h s = same-good (perform (renew p) x) s refl refl refl refl
 
 -- and after each list of effects of which each may take place where those before it have
 pub good-all : (g : Geometry) (es : List Effect) (r : Register) (x : Model) → Good g r x → AllPossible g x es

@@ -4,6 +4,7 @@ use mathlib.Core.Path.{_≡_}
 use mathlib.Core.List.{List, [], _∷_, map}
 use mathlib.Core.Bool.{true}
 use lib.ListN.{length}
+use Rattle.volume_tree.specs.Volume.{Volume}
 use Rattle.volume_tree.specs.Form.{wellFormed}
 use Rattle.log.specs.Change.{waitingOf}
 use Rattle.log.specs.Laws.Partition.{applyEach, EachApplies, AllFit, picked, Closed}
@@ -20,17 +21,21 @@ abbrev pub NumberedFrom : ℕ → List Acknowledged → Type 0
 NumberedFrom k [] = Unit {0}
 NumberedFrom k (a ∷ l) = (a .recorded .sequence ≡ k) × NumberedFrom (k + 1) l
 
-pub record Kept (g : Geometry) (r : Register) (x : Model) : Type 0 where
+-- between the mounted volume, the operations of the register and the model
+pub record KeptBy (g : Geometry) (v : Volume) (l : List Acknowledged) (x : Model) : Type 0 where
   pub sound : Sound g x
-  pub mounted : wellFormed (g .objects) (g .blocks) (r .mounted) ≡ true
-  pub numbers : NumberedFrom 1 (r .operations)
-  pub next : x .log .next ≡ length (r .operations) + 1
-  pub fit : AllFit recordedOf (g .objects) (g .blocks) (r .operations)
-  pub turn : EachApplies recordedOf (r .mounted) (picked isLive (r .operations))
-  pub view : x .view ≡ applyEach recordedOf (r .mounted) (picked isLive (r .operations))
-  pub server : x .server ≡ applyEach recordedOf (r .mounted) (picked isSent (r .operations))
-  pub closed : Closed recordedOf isSent (picked isLive (r .operations))
-  pub waiting : waitingOf (x .log .slots) ≡ map recordedOf (picked isWaiting (r .operations))
+  pub mounted : wellFormed (g .objects) (g .blocks) v ≡ true
+  pub numbers : NumberedFrom 1 l
+  pub next : x .log .head .next ≡ length l + 1
+  pub fit : AllFit recordedOf (g .objects) (g .blocks) l
+  pub turn : EachApplies recordedOf v (picked isLive l)
+  pub view : x .view ≡ applyEach recordedOf v (picked isLive l)
+  pub server : x .server ≡ applyEach recordedOf v (picked isSent l)
+  pub closed : Closed recordedOf isSent (picked isLive l)
+  pub waiting : waitingOf (x .log .slots) ≡ map recordedOf (picked isWaiting l)
+
+abbrev pub Kept : Geometry → Register → Model → Type 0
+Kept g r x = KeptBy g (r .mounted) (r .operations) x
 
 -- when operations were issued and lost, and that the sent ones leave out no direct predecessor
 pub record Timed (l : List Acknowledged) (happened : ℕ) : Type 0 where
@@ -39,6 +44,9 @@ pub record Timed (l : List Acknowledged) (happened : ℕ) : Type 0 where
   pub later : (a b : Acknowledged) (t : ℕ) → Among a l → Among b l → a .fate ≡ lost t → isWaiting b ≡ true → t < b .issued
   pub shut : (a c : Acknowledged) → Among a l → Among c l → isSent c ≡ true → directly a c ≡ true → isSent a ≡ true
 
-pub record Good (g : Geometry) (r : Register) (x : Model) : Type 0 where
-  pub kept : Kept g r x
-  pub timed : Timed (r .operations) (r .happened)
+pub record GoodBy (g : Geometry) (v : Volume) (l : List Acknowledged) (happened : ℕ) (x : Model) : Type 0 where
+  pub kept : KeptBy g v l x
+  pub timed : Timed l happened
+
+abbrev pub Good : Geometry → Register → Model → Type 0
+Good g r x = GoodBy g (r .mounted) (r .operations) (r .happened) x

@@ -28,7 +28,7 @@ use Rattle.session.specs.Effect.{sentFound}
 use Rattle.session.specs.Laws.Possible.{Sound, Issuable}
 use Rattle.session.specs.Laws.Issue.{record-good}
 use Rattle.register.specs.Replay.{replay}
-use Rattle.register.specs.Register.{Register, Touch, Renewal, Acknowledged, isWaiting, isSent, sentIn, waitingIn, viewOf, sending, losing, acknowledged, withOperations, later}
+use Rattle.register.specs.Register.{Register, Acknowledged, isWaiting, isSent, sentIn, waitingIn, viewOf, sending, losing, acknowledged, withOperations, later}
 use Rattle.register.specs.Claim.{AppliesInTurn, recordedOf}
 use Rattle.register.specs.Laws.Fate.{Among, isLive, waits-not-sent, sent-live, waiting-live, live-waits, send-record, send-sent, send-waiting, send-live, lose-record, lose-waiting, lose-sent, lose-live}
 use Rattle.register.specs.Laws.Invariant.{Kept}
@@ -185,10 +185,9 @@ module _ (g : Geometry) (r : Register) (x : Model) (k : Kept g r x) where
   free-applies a f = ap (λ (v : Volume). applies v (a .recorded .operation)) server-live ∙ free-more a f .fit
 
   -- an effect that sends, issues and discards nothing
-  pub same-kept : (t : List Touch) (n : List Renewal) (c : ℕ) (y : Model) → Sound g y → y .server ≡ x .server → y .view ≡ x .view → y .log .next ≡ x .log .next
-      → waitingOf (y .log .slots) ≡ waitingOf (x .log .slots)
-      → Kept g (record { mounted = r .mounted; operations = r .operations; touches = t; renewals = n; happened = c }) y
-  same-kept t n c y sound es ev en ew =
+  pub same-kept : (y : Model) → Sound g y → y .server ≡ x .server → y .view ≡ x .view → y .log .head .next ≡ x .log .head .next
+      → waitingOf (y .log .slots) ≡ waitingOf (x .log .slots) → Kept g r y
+  same-kept y sound es ev en ew =
       record {
         sound = sound;
         mounted = k .mounted;
@@ -204,7 +203,7 @@ module _ (g : Geometry) (r : Register) (x : Model) (k : Kept g r x) where
 
   -- a change of fates, told by what it leaves live, sent and waiting
   module _ (h : Acknowledged → Acknowledged) (same : (a : Acknowledged) → recordedOf (h a) ≡ recordedOf a) (y : Model) where
-    fates-kept : Sound g y → y .log .next ≡ x .log .next
+    fates-kept : Sound g y → y .log .head .next ≡ x .log .head .next
         → EachApplies recordedOf (r .mounted) (picked (λ c. isLive (h c)) (r .operations))
         → y .view ≡ applyEach recordedOf (r .mounted) (picked (λ c. isLive (h c)) (r .operations))
         → y .server ≡ applyEach recordedOf (r .mounted) (picked (λ c. isSent (h c)) (r .operations))
@@ -286,9 +285,9 @@ module _ (g : Geometry) (r : Register) (x : Model) (k : Kept g r x) where
       let ops = r .operations in
       let v = r .mounted in
       let a = acknowledged p o r in
-      let q = x .log .next in
+      let q = x .log .head .next in
       let qn : recordOf q p o ≡ a .recorded = ap (λ (z : ℕ). recordOf z p o) (k .next) in
-      let low = formed-inv (g .objects) (g .blocks) (g .capacity) (x .log) (k .sound .log) .from-one in
+      let low = formed-inv (g .objects) (g .blocks) (g .capacity) (x .log) (k .sound .log) .head .from-one in
       let good = record-good q p o low (i .number) (i .program) (i .recordable .good) in
       let more : (f : Acknowledged → Bool) → f a ≡ true → picked f (ops ++ (a ∷ [])) ≡ picked f ops ++ (a ∷ []) =
       λ f e. picked-append f ops (a ∷ []) ∙ ap (λ (z : List Acknowledged). picked f ops ++ z) (picked-yes f a [] e ∙ ap (λ (z : List Acknowledged). a ∷ z) (picked-none f)) in

@@ -66,7 +66,7 @@ unfolding perform
 effect-known g r x k n e can = record { depended = go e can; recalled = effect-recalled r (n .recalled) e }
   where
     rise : Rising sequenceOf (x .log .slots)
-    rise = ordered-rising (x .log .next) (x .log .slots) (rising-inv (x .log .next) (x .log .slots) (formed-inv (g .objects) (g .blocks) (g .capacity) (x .log) (k .kept .sound .log) .order))
+    rise = ordered-rising (x .log .head .next) (x .log .slots) (rising-inv (x .log .head .next) (x .log .slots) (formed-inv (g .objects) (g .blocks) (g .capacity) (x .log) (k .kept .sound .log) .order))
 
     go : (e : Effect) → Possible g x e → Depended (happen e r) (perform e x .log)
     go (note p ops) h = note-depended r (k .timed) (n .recalled) (x .log) (n .depended) (k .kept .waiting) rise p ops

@@ -9,12 +9,12 @@ use mathlib.Core.Bool.{Bool, true, false, not, cond}
 use mathlib.Core.Option.{Option, none, some}
 use lib.ListN.{length}
 use borrow.Author.Tests.{lt-ltb, not-true}
-use Rattle.record.specs.Operation.{Operation, Record, operands}
+use Rattle.record.specs.Operation.{Operation, Record, operands, Stretch, overwriteOf}
 use Rattle.record.specs.Fields.{member}
 use Rattle.volume_tree.specs.Volume.{Volume}
 use Rattle.volume_apply.specs.Laws.Local.{Same, same-refl, same-trans, apply-elsewhere}
 use Rattle.volume_apply.specs.Apply.{apply}
-use Rattle.log.specs.Order.{Stretch, separate, overwriteOf, directlyPrecedes}
+use Rattle.log.specs.Order.{separate, directlyPrecedes}
 use Rattle.log.specs.Laws.Order.{Rising}
 use Rattle.log.specs.Laws.Swap.{swap, in-both}
 use Rattle.log.specs.Laws.Partition.{applyEach, EachApplies, picked, picked-yes, picked-in, Closed, Parted, partition}

@@ -3,7 +3,7 @@
 use Prim.Native.Nat.{ℕ, _<_}
 use native.Mathlib.Omega.{arith}
 use mathlib.Core.Path.{_≡_, refl, sym, ap, _∙_, subst}
-use mathlib.Core.List.{List, [], _∷_, _++_}
+use mathlib.Core.List.{List, [], _∷_, _++_, nil≢cons}
 use mathlib.Core.Bool.{Bool, true, false, not, cond, false≢true}
 use mathlib.Core.Option.{Option, none, some}
 use lib.ListN.{length, replicate}
@@ -37,6 +37,7 @@ use Rattle.session.specs.Call
 use Rattle.session.specs.Refusal.{Row, row}
 use Rattle.session.specs.Refusal
 use Rattle.session.specs.Model.{Model, unless, badProgram, isMarked, toldOf}
+use Rattle.session.specs.Told.{Told}
 use Rattle.session.specs.Issue.{issues, alters, onFound, displaced, removes, writes}
 use Rattle.session.specs.Edit.{roomRows, changed, changeRows, makeRows, removeRows, renameRows, writeRows, lengthRows, forderRows}
 use Rattle.log.specs.Sends.{applying}
@@ -252,11 +253,12 @@ pub record Changes (g : Geometry) (c : Call) (x : Model) : Type 0 where
   pub program : ℕ
   pub first : Operation
   pub others : List Operation
-  pub effects : acceptedEffects c (toldOf x) ≡ issuing program (first ∷ others)
-  pub results : answerOf g c x .results ≡ x .log .next ∷ []
+  pub issued : issues (toldOf x) c ≡ first ∷ others
+  pub effects : acceptedEffects c (toldOf x) ≡ issuing program (issues (toldOf x) c)
+  pub results : answerOf g c x .results ≡ x .log .head .next ∷ []
 
 module _ (g : Geometry) (x : Model) (s : Sound g x) where
-  told : (c : Call) (p : ℕ) (rows : List Row) → changed g c p rows x .returned ≡ 0 → changed g c p rows x .results ≡ x .log .next ∷ []
+  told : (c : Call) (p : ℕ) (rows : List Row) → changed g c p rows x .returned ≡ 0 → changed g c p rows x .results ≡ x .log .head .next ∷ []
   told c p rows e = ap (λ (a : Answer). a .results) (accepted-passes c (badProgram p ∷ isMarked (x .log) p ∷ (rows ++ roomRows g c x)) _ e .1)
 
   -- either remove
@@ -270,16 +272,17 @@ module _ (g : Geometry) (x : Model) (s : Sound g x) where
         program = p;
         first = Operation.remove (f .0) d n;
         others = [];
-        effects = does .1 ∙ ap (issuing p) (does .0) ∙ ap (λ (h : Option ℕ). issuing p (onFound h (λ o. Operation.remove o d n))) (f .1);
+        issued = does .0 ∙ ap (λ (h : Option ℕ). onFound h (λ o. Operation.remove o d n)) (f .1);
+        effects = does .1;
         results = ap (λ (a : Answer). a .results) by ∙ told c p (removeRows takes (x .view) d n) r;
       }
 
   pub change-answered : (c : Call) → alters c ≡ true → answerOf g c x .returned ≡ 0 → Changes g c x
   unfolding answerOf
   change-answered (change p (Class.createFile d n o)) a e =
-      record { program = p; first = Operation.createFile o d n; others = []; effects = refl; results = told (createFile p d n o) p (makeRows (x .view) d n o) e }
+      record { program = p; first = Operation.createFile o d n; others = []; issued = refl; effects = refl; results = told (createFile p d n o) p (makeRows (x .view) d n o) e }
   change-answered (change p (Class.makeDirectory d n o)) a e =
-      record { program = p; first = Operation.makeDirectory o d n; others = []; effects = refl; results = told (makeDirectory p d n o) p (makeRows (x .view) d n o) e }
+      record { program = p; first = Operation.makeDirectory o d n; others = []; issued = refl; effects = refl; results = told (makeDirectory p d n o) p (makeRows (x .view) d n o) e }
   change-answered (change p (Class.removeFile d n)) a e = remove-answered isFile p d n (removeFile p d n) refl (refl, refl) e
   change-answered (change p (Class.removeDirectory d n)) a e = remove-answered isDirectory p d n (removeDirectory p d n) refl (refl, refl) e
   change-answered (change p (Class.rename d n b k)) a e =
@@ -288,7 +291,8 @@ module _ (g : Geometry) (x : Model) (s : Sound g x) where
         program = p;
         first = Operation.rename (f .0) d b (displaced (f .0) (search (x .view) b k)) n k;
         others = [];
-        effects = ap (λ (h : Option ℕ). issuing p (onFound h (λ o. Operation.rename o d b (displaced o (search (x .view) b k)) n k))) (f .1);
+        issued = ap (λ (h : Option ℕ). onFound h (λ o. Operation.rename o d b (displaced o (search (x .view) b k)) n k)) (f .1);
+        effects = refl;
         results = told (rename p d n b k) p (renameRows (x .view) d n b k) e;
       }
   change-answered (change p (Class.write o f t)) a e =
@@ -297,16 +301,24 @@ module _ (g : Geometry) (x : Model) (s : Sound g x) where
         program = p;
         first = k .0;
         others = k .1;
-        effects = ap (issuing p) (k .2);
+        issued = k .2;
+        effects = refl;
         results = told (write p o f t) p (writeRows (g .blocks) (x .view) o f t) e;
       }
   change-answered (change p (Class.setLength o f)) a e =
-      record { program = p; first = Operation.setLength o f; others = []; effects = refl; results = told (setLength p o f) p (lengthRows (g .blocks) (x .view) o f) e }
+      record { program = p; first = Operation.setLength o f; others = []; issued = refl; effects = refl; results = told (setLength p o f) p (lengthRows (g .blocks) (x .view) o f) e }
   change-answered (change p (Class.forder t)) a e =
-      record { program = p; first = Operation.forder (objectsOf t); others = []; effects = refl; results = told (forder p t) p (forderRows (x .view) t) e }
+      record { program = p; first = Operation.forder (objectsOf t); others = []; issued = refl; effects = refl; results = told (forder p t) p (forderRows (x .view) t) e }
   change-answered (question p q) a e = absurd (false≢true a)
   change-answered (link l) a e = absurd (false≢true a)
   change-answered (recovery p l) a e = absurd (false≢true a)
+
+-- a call that issues something is a change or forder
+pub issues-alters : (t : Told) (c : Call) (o : Operation) (os : List Operation) → issues t c ≡ o ∷ os → alters c ≡ true
+issues-alters t (question p q) o os e = absurd (nil≢cons e)
+issues-alters t (change p c) o os e = refl
+issues-alters t (link l) o os e = absurd (nil≢cons e)
+issues-alters t (recovery p l) o os e = absurd (nil≢cons e)
 
 -- an accepted fsync answers how many it needs
 pub sync-answered : (p o k : ℕ) (x : Model) → fsyncOf p o k x .returned ≡ 0 → fsyncOf p o k x .results ≡ length (needed o (waitingOf (x .log .slots))) ∷ []

@@ -16,7 +16,9 @@ use Rattle.record.specs.Operation.{Operation}
 use Rattle.record.specs.Fields.{validList, different, allUpTo, allBelow, objectsOf}
 use Rattle.record.specs.Laws.List.{count-objects}
 use Rattle.buffer.specs.Patch.{patch}
-use Rattle.volume_entry.specs.Entry.{Entry, free, file, directory, isUsed, isFile, isDirectory, kindNumber, contentsOf, refilled}
+use Rattle.volume_entry.specs.Entry.{Entry, root, isUsed, isFile, isDirectory, kindNumber, contentsOf, refilled}
+use Rattle.volume_entry.specs.Laws.Entry.{refilled-kind, refilled-contents}
+use Rattle.volume_entry.specs.Laws.Field.{alike-file}
 use Rattle.volume_entry.specs.Laws.Write.{length-patch}
 use Rattle.volume_tree.specs.Volume.{Volume, entryAt, search, hasChildren, isChild, isNamed}
 use Rattle.volume_tree.specs.Laws.Form.{well-formed-inv, lowest-some}
@@ -104,16 +106,16 @@ module _ (g : Geometry) (x : Model) (s : Sound g x) where
   not-root : (o : ℕ) → isFile (entryAt (x .view) o) ≡ true → 1 ≤ o
   not-root o h = go o h
     where
-      root : entryAt (x .view) 0 ≡ directory [] 0
-      root = well-formed-inv (g .objects) (g .blocks) (x .view) (s .view) .root
+      first : entryAt (x .view) 0 ≡ root
+      first = well-formed-inv (g .objects) (g .blocks) (x .view) (s .view) .root
 
       go : (i : ℕ) → isFile (entryAt (x .view) i) ≡ true → 1 ≤ i
-      go zero k = let d : false ≡ true = ap isFile (sym root) ∙ k in let z : _≡_ {A = ℕ} 0 1 = cc in absurd (omega arith)
+      go zero k = let d : false ≡ true = ap isFile (sym first) ∙ k in let z : _≡_ {A = ℕ} 0 1 = cc in absurd (omega arith)
       go (suc i) k = omega arith
 
   -- create file and make directory
   make-fit : (p d : ℕ) (n : List ℕ) (o : ℕ) (c : Call) → length (issues (toldOf x) c) ≡ 1 → changed g c p (makeRows (x .view) d n o) x .returned ≡ 0
-      → (p < 32) × EntryFields (g .objects) o d n × (hasRoom (x .view) o d n ≡ true) × (length (x .log .slots) + 1 ≤ g .capacity) × (x .log .next + 1 ≤ 4294967295)
+      → (p < 32) × EntryFields (g .objects) o d n × (hasRoom (x .view) o d n ≡ true) × (length (x .log .slots) + 1 ≤ g .capacity) × (x .log .head .next + 1 ≤ 4294967295)
   make-fit p d n o c one e =
       let a = change-passed g c p (makeRows (x .view) d n o) x refl e in
       let r = a .1 in
@@ -125,7 +127,7 @@ module _ (g : Geometry) (x : Model) (s : Sound g x) where
       let absent : isAbsent (search (x .view) d n) ≡ true = not-false _ (n₁₀ .0) in
       let oin : o < length (x .view) = inside (x .view) o (n₇' .0) in
       let room : length (x .log .slots) + length (issues (toldOf x) c) ≤ g .capacity = ltb-false _ _ (r .1 .1 .1 .1 .1 .1 .0) in
-      let number : x .log .next + length (issues (toldOf x) c) ≤ 4294967295 = ltb-false _ _ (r .1 .1 .1 .1 .1 .1 .1 .0) in (
+      let number : x .log .head .next + length (issues (toldOf x) c) ≤ 4294967295 = ltb-false _ _ (r .1 .1 .1 .1 .1 .1 .1 .0) in (
         a .0,
         record { low = omega arith; object = below o (n₇' .0); parent = below d (n₇ .0); text = text-fine n (r .0) (r .1 .0) },
         rw (dir, absent, lt-ltb o (length (x .view)) oin, n₁₀ .1),
@@ -167,7 +169,7 @@ module _ (g : Geometry) (x : Model) (s : Sound g x) where
       let kids : hasChildren v o ≡ false = ap (λ (f : Option ℕ). ofFound f (hasChildren v)) (sym is) ∙ r .1 .1 .1 .1 .1 .0 in
       let count : length (issues (toldOf x) c) ≡ 1 = ap length issued ∙ ap (λ (f : Option ℕ). length (onFound f (λ i. Operation.remove i d n))) is in
       let room : length (x .log .slots) + length (issues (toldOf x) c) ≤ g .capacity = ltb-false _ _ (r .1 .1 .1 .1 .1 .1 .0) in
-      let number : x .log .next + length (issues (toldOf x) c) ≤ 4294967295 = ltb-false _ _ (r .1 .1 .1 .1 .1 .1 .1 .0) in
+      let number : x .log .head .next + length (issues (toldOf x) c) ≤ 4294967295 = ltb-false _ _ (r .1 .1 .1 .1 .1 .1 .1 .0) in
       let f : EntryFields (g .objects) o d n =
       record { low = search-inside v d n o is .0; object = found-below d n o is; parent = below d (r .1 .1 .0); text = text-fine n (r .0) (r .1 .0) } in
       (o, is, record { program = a .0; fit = (removed-fit d n o dir is kids, remove-recordable (g .objects) (g .blocks) few o d n f, tt); room = omega arith; number = omega arith })
@@ -206,16 +208,11 @@ module _ (g : Geometry) (x : Model) (s : Sound g x) where
   overwritten-file : (v : Volume) (o f : ℕ) (t : List ℕ) → o < length v → isFile (entryAt v o) ≡ true → f + length t ≤ length (contentsOf (entryAt v o))
       → (isFile (entryAt (apply v (Operation.overwrite o f t)) o) ≡ true) × (length (contentsOf (entryAt v o)) ≡ length (contentsOf (entryAt (apply v (Operation.overwrite o f t)) o)))
   unfolding apply
-  overwritten-file v o f t there isf h = let y = go (entryAt v o) isf h in (ap isFile is ∙ y .0, y .1 ∙ ap (λ (e : Entry). length (contentsOf e)) (sym is))
-    where
-      is : entryAt (set v o (refilled (entryAt v o) (patch (contentsOf (entryAt v o)) f t))) o ≡ refilled (entryAt v o) (patch (contentsOf (entryAt v o)) f t)
-      is = entry-set-same v o (refilled (entryAt v o) (patch (contentsOf (entryAt v o)) f t)) there
-
-      go : (e : Entry) → isFile e ≡ true → f + length t ≤ length (contentsOf e)
-          → (isFile (refilled e (patch (contentsOf e) f t)) ≡ true) × (length (contentsOf e) ≡ length (contentsOf (refilled e (patch (contentsOf e) f t))))
-      go free k l = (k, refl)
-      go (file n p c) k l = (refl, sym (length-patch c f t l))
-      go (directory n p) k l = (k, refl)
+  overwritten-file v o f t there isf h =
+      let e = entryAt v o in
+      let c = patch (contentsOf e) f t in
+      let is = entry-set-same v o (refilled e c) there in
+      (ap isFile is ∙ alike-file (refilled e c) e (refilled-kind e c) ∙ isf, sym (ap (λ (x : Entry). length (contentsOf x)) is ∙ ap length (refilled-contents e c isf) ∙ length-patch (contentsOf e) f t h))
 
   -- an accepted write: an overwrite of the bytes up to the length, and then an append of the rest
   writes-fit : (o f : ℕ) (d : List ℕ) → 1 ≤ o → o < g .objects → isFile (entryAt (x .view) o) ≡ true
@@ -362,7 +359,7 @@ module _ (g : Geometry) (x : Model) (s : Sound g x) where
       let kids : ofFound t (hasChildren v) ≡ false = ap (λ (f : Option ℕ). ofFound f (λ i. ofFound (displaced i (search v e k)) (hasChildren v))) (sym is) ∙ r .1 .1 .1 .1 .1 .0 in
       let count : length (issues (toldOf x) (rename p d n e k)) ≡ 1 = ap (λ (f : Option ℕ). length (onFound f (λ i. Operation.rename i d e (displaced i (search v e k)) n k))) is in
       let room : length (x .log .slots) + length (issues (toldOf x) (rename p d n e k)) ≤ g .capacity = ltb-false _ _ (r .1 .1 .1 .1 .1 .1 .0) in
-      let number : x .log .next + length (issues (toldOf x) (rename p d n e k)) ≤ 4294967295 = ltb-false _ _ (r .1 .1 .1 .1 .1 .1 .1 .0) in
+      let number : x .log .head .next + length (issues (toldOf x) (rename p d n e k)) ≤ 4294967295 = ltb-false _ _ (r .1 .1 .1 .1 .1 .1 .1 .0) in
       let f : EntryFields (g .objects) o d n =
       record { low = search-inside v d n o is .0; object = found-below d n o is; parent = below d (n₇ .0); text = text-fine n (n₅ .0) (n₆ .0) } in
       let y = displaced-fit o d e n k f (below e (n₇ .1)) (text-fine k (n₅ .1) (n₆ .1)) (search v e k) refl (q₉ .1) kids in

@@ -24,8 +24,8 @@ send-is q x r e = ap (λ (f : Option Record). sentFound f x) e
 issue-sound : (g : Geometry) (x : Model) (p : ℕ) (o : Operation) → Sound g x → Issuable g x p o → Sound g (perform (issue p o) x)
 unfolding perform
 issue-sound g x p o s i =
-    let q = x .log .next in
-    let low = formed-inv (g .objects) (g .blocks) (g .capacity) (x .log) (s .log) .from-one in
+    let q = x .log .head .next in
+    let low = formed-inv (g .objects) (g .blocks) (g .capacity) (x .log) (s .log) .head .from-one in
     let good = record-good q p o low (i .number) (i .program) (i .recordable .good) in
     record {
       range = s .range;

@@ -27,16 +27,16 @@ pub record Issuing (g : Geometry) (x : Model) (p : ℕ) (os : List Operation) : 
   pub program : p < 32
   pub fit : FitInTurn (g .objects) (g .blocks) (x .view) os
   pub room : length (x .log .slots) + length os ≤ g .capacity
-  pub number : x .log .next + length os ≤ 4294967295
+  pub number : x .log .head .next + length os ≤ 4294967295
 
 -- what a note and an issue leave of the view, the number of slots and the next number
 note-issue : (p : ℕ) (o : Operation) (x : Model)
     → (perform (issue p o) (perform (note p (operands o)) x) .view ≡ apply (x .view) o)
     × (length (perform (issue p o) (perform (note p (operands o)) x) .log .slots) ≡ suc (length (x .log .slots)))
-    × (perform (issue p o) (perform (note p (operands o)) x) .log .next ≡ suc (x .log .next))
+    × (perform (issue p o) (perform (note p (operands o)) x) .log .head .next ≡ suc (x .log .head .next))
 unfolding perform Change.issue
 note-issue p o x =
-    let a = length-append (Change.note p (operands o) (x .log) .slots) (Change.waitingSlot (record { sequence = x .log .next; program = p; operation = o }) ∷ []) in
+    let a = length-append (Change.note p (operands o) (x .log) .slots) (Change.waitingSlot (record { sequence = x .log .head .next; program = p; operation = o }) ∷ []) in
     let b = noted-length p (operands o) (x .log .slots) in
     (refl, omega arith, omega arith)
 

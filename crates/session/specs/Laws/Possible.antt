@@ -30,7 +30,7 @@ pub record Issuable (g : Geometry) (x : Model) (p : ℕ) (o : Operation) : Type 
   pub fit : applies (x .view) o ≡ true
   pub recordable : Recordable (g .objects) (g .blocks) o
   pub room : length (x .log .slots) < g .capacity
-  pub number : x .log .next < 4294967295
+  pub number : x .log .head .next < 4294967295
 
 -- an operation that may be sent: it waits under its number, applies to the server, and no waiting one precedes it
 pub record Sendable (x : Model) (q : ℕ) (r : Record) : Type 0 where

@@ -9,11 +9,12 @@ use mathlib.Core.Option.{Option, none, some}
 use lib.Dec.{eqb}
 use borrow.Author.Tests.{eqb-true, eqb-false, not-true, not-false}
 use Rattle.returned.specs.Returned
-use Rattle.volume_entry.specs.Entry.{Entry, free, file, directory, isUsed, isFile, isDirectory}
+use Rattle.volume_entry.specs.Entry.{Entry, isFile, isDirectory, hasName}
+use Rattle.volume_entry.specs.Laws.Entry.{directory-used, file-no-directory, directory-no-file}
 use Rattle.volume_tree.specs.Volume.{Volume, entryAt, isChild, search, hasChildren}
 use Rattle.volume_tree.specs.Form.{wellFormed}
 use Rattle.volume_tree.specs.Laws.Search.{no-children}
-use Rattle.volume_tree.specs.Laws.Change.{directory-used, well-formed-sound}
+use Rattle.volume_tree.specs.Laws.Change.{well-formed-sound}
 use Rattle.session.specs.Call.{Geometry, Call, removeFile, removeDirectory, refusal}
 use Rattle.session.specs.Refusal.{row}
 use Rattle.session.specs.Model.{Model, programRows, toldOf}
@@ -27,17 +28,6 @@ use Rattle.session.specs.Laws.Refusal.{neither}
 use Rattle.session.specs.Laws.Edit.{change-passed, remove-accepted}
 use Rattle.session.specs.Laws.Table.{first-lowest, unless-refuses, unless-number}
 
--- no entry is of both kinds
-file-no-directory : (e : Entry) → isFile e ≡ true → isDirectory e ≡ false
-file-no-directory free h = refl
-file-no-directory (file n p c) h = refl
-file-no-directory (directory n p) h = absurd (false≢true h)
-
-directory-no-file : (e : Entry) → isDirectory e ≡ true → isFile e ≡ false
-directory-no-file free h = refl
-directory-no-file (file n p c) h = absurd (false≢true h)
-directory-no-file (directory n p) h = refl
-
 -- in a well-formed volume a file has no children
 file-childless : (n b : ℕ) (v : Volume) → wellFormed n b v ≡ true → (o : ℕ) → isFile (entryAt v o) ≡ true → hasChildren v o ≡ false
 file-childless n b v w o h = no-children v o (λ i lt. go i (isChild v o i) refl)
@@ -45,7 +35,7 @@ file-childless n b v w o h = no-children v o (λ i lt. go i (isChild v o i) refl
     go : (i : ℕ) (t : Bool) → isChild v o i ≡ t → t ≡ false
     go i true e =
         let a = and-eq-true-iff (not (eqb i 0)) _ .0 e in
-        let u = and-eq-true-iff (isUsed (entryAt v i)) _ .0 (a .1) in
+        let u = and-eq-true-iff (hasName (entryAt v i)) _ .0 (a .1) in
         let dir = well-formed-sound n b v w .parent i (eqb-false i 0 (not-true _ (a .0))) (u .0) in
         let here : isDirectory (entryAt v o) ≡ true = subst (λ (k : ℕ). isDirectory (entryAt v k) ≡ true) (eqb-true _ _ (u .1)) dir in
         sym here ∙ file-no-directory (entryAt v o) h

@@ -74,7 +74,7 @@ module _ (g : Geometry) (l : Log) (p own count : ℕ) (i : ℕ) (e : i ≡ first
 -- With 0 the own table gave 0.
 own-passes : (g : Geometry) (l : Log) (p own count : ℕ) → changeNumber g l p own count ≡ 0 → own ≡ 0
 unfolding changeNumber firstNumber
-own-passes g l p own count h = go (not (ltb p 32)) (holds (l .marks) p) (eqb own 0) refl h
+own-passes g l p own count h = go (not (ltb p 32)) (holds (l .head .marks) p) (eqb own 0) refl h
   where
     go : (a c t : Bool) → eqb own 0 ≡ t → cond a 3 (cond c 4 (cond (not t) own (firstNumber (roomFor g l count)))) ≡ 0 → own ≡ 0
     go true c t q e = absurd (omega arith)
@@ -111,7 +111,7 @@ module _ {n b m p : ℕ} {s v l : List ℕ} {c : Change} {own count : ℕ} (ch :
   change-refuses k e z r q =
       (λ i. record { gives = answer (q i .returned) (q i .value ∷ []) []; leaves = buffers s v l })
       ∙ sym (refused n b m s v l (ch .held) (change p c) (programRows (readLog m l) p ++ (own-rows ++ roomRows (geometry n b m) (change p c) (modelIn n b m s v l)))
-      (answer 0 (readLog m l .next ∷ []) []) refl (ch .rise) k (e ∙ table-number) z refl)
+      (answer 0 (readLog m l .head .next ∷ []) []) refl (ch .rise) k (e ∙ table-number) z refl)
 
   -- Accepted: the answer is the next sequence number.
   pub change-passes : (k : ℕ) → k ≡ changeNumber (geometry n b m) (readLog m l) p own count → k ≡ 0
@@ -124,7 +124,7 @@ module _ {n b m p : ℕ} {s v l : List ℕ} {c : Change} {own count : ℕ} (ch :
   change-accepted k e z =
       ap (λ (a : Answer). a .returned)
       (answered n b m s v l (ch .held) (change p c) (programRows (readLog m l) p ++ (own-rows ++ roomRows (geometry n b m) (change p c) (modelIn n b m s v l)))
-      (answer 0 (readLog m l .next ∷ []) []) refl (ch .rise) (change-passes k e z))
+      (answer 0 (readLog m l .head .next ∷ []) []) refl (ch .rise) (change-passes k e z))
 
   -- Its own rows let it pass.
   pub change-own : (k : ℕ) → k ≡ changeNumber (geometry n b m) (readLog m l) p own count → k ≡ 0 → own ≡ 0

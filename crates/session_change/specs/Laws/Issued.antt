@@ -35,21 +35,21 @@ module _ {n b m p : ℕ} {s v l : List ℕ} (h : Admitted n b m s v l) {o : Oper
   issuing-room = let r = i .room in let k = i .number in (omega arith, omega arith)
 
   -- Its record is valid, fits, and applies to the view.
-  pub issuing-able : (r : Record) → r ≡ recordOf (readLog m l .next) p o → Issuable n b (readVolume n b v) r
+  pub issuing-able : (r : Record) → r ≡ recordOf (readLog m l .head .next) p o → Issuable n b (readVolume n b v) r
   issuing-able r e =
-      let one = formed-inv n b m (readLog m l) (h .log .form) .from-one in
+      let one = formed-inv n b m (readLog m l) (h .log .form) .head .from-one in
       let f = i .fit in
       subst (Issuable n b (readVolume n b v)) (sym e)
       (record {
-        sound = record-good (readLog m l .next) p o one (issuing-room .1) (i .program) (f .1 .good);
-        fit = f .1 .within (readLog m l .next) p;
+        sound = record-good (readLog m l .head .next) p o one (issuing-room .1) (i .program) (f .1 .good);
+        fit = f .1 .within (readLog m l .head .next) p;
         ready = f .0;
       })
 
   -- What is left where it is issued: three buffers that pass, on which the others may be issued.
-  module _ (x : ℕ) (log view : List ℕ) (u : Issued n b m x log view (readVolume n b v) (readLog m l) (recordOf (readLog m l .next) p o)) where
+  module _ (x : ℕ) (log view : List ℕ) (u : Issued n b m x log view (readVolume n b v) (readLog m l) (recordOf (readLog m l .head .next) p o)) where
     abbrev first : Record
-    first = recordOf (readLog m l .next) p o
+    first = recordOf (readLog m l .head .next) p o
 
     able : Issuable n b (readVolume n b v) first
     able = issuing-able first refl
@@ -92,7 +92,7 @@ unfolding answerOf
 changed-outcome {n} {b} {m} {p} {s} {v} {l} {c} ch k e z os all x log view u r w =
     let g = geometry n b m in
     let y = modelIn n b m s v l in
-    let a = answer 0 (readLog m l .next ∷ []) [] in
+    let a = answer 0 (readLog m l .head .next ∷ []) [] in
     let told = w ∙ ap (value 0) (u .gives) in
     let left : encodeModel g (performAll (issuing p os) y) ≡ buffers s view log =
     ap (encodeModel g) (performed p os y) ∙ (λ j. record { server = ch .held .server .stored j; view = sym (u .view) j; log = sym (u .log) j }) in
@@ -104,7 +104,7 @@ changed-outcome {n} {b} {m} {p} {s} {v} {l} {c} ch k e z os all x log view u r w
 -- Where it issues one operation, what issuing that one leaves.
 pub issued-outcome : {n b m p : ℕ} {s v l : List ℕ} {c : Change} {own count : ℕ} (ch : ChangeBy n b m p s v l c own count) (k : ℕ)
     → k ≡ changeNumber (geometry n b m) (readLog m l) p own count → k ≡ 0
-    → (o : Operation) → operationsOf (toldOf (modelIn n b m s v l)) c ≡ o ∷ [] → (d : Record) → d ≡ recordOf (readLog m l .next) p o
+    → (o : Operation) → operationsOf (toldOf (modelIn n b m s v l)) c ≡ o ∷ [] → (d : Record) → d ≡ recordOf (readLog m l .head .next) p o
     → (x : ℕ) (log view : List ℕ) → Issued n b m x log view (readVolume n b v) (readLog m l) d → (r : Value) → r ≡ value 0 x
     → given (r .returned) (r .value ∷ []) [] (buffers s view log) ≡ step (geometry n b m) (change p c) (buffers s v l)
 issued-outcome {n} {b} {m} {p} {s} {v} {l} ch k e z o one d q x log view u r w =

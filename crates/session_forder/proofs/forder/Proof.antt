@@ -79,7 +79,7 @@ issue-forder-requires c κs =
     let h = held (k .before .before .before) in
     let a = start (k .before .before .before) .args in
     let i = forder-issuing h (a .program) (a .list .now) (w .result) (w .ensures) (k .change-refusal .result) (k .change-refusal .ensures) (e .if2 .left) in
-    let able = issuing-able h i (forderRecord (readLog (a .m) (a .log .now) .next) (a .program) (a .list .now)) refl in (
+    let able = issuing-able h i (forderRecord (readLog (a .m) (a .log .now) .head .next) (a .program) (a .list .now)) refl in (
       h .log,
       (
         issuing-room h i,
@@ -104,8 +104,8 @@ returns-3 c =
     let k = e .before in
     let a = start (k .before .before .before) .args in
     issued-outcome (change k) (k .change-refusal .result) (k .change-refusal .ensures) (e .if2 .left) (Operation.forder (objectsOf (a .list .now))) refl
-    (forderRecord (readLog (a .m) (a .log .now) .next) (a .program) (a .list .now)) refl (x .issue-forder .result) (x .issue-forder .last .0) (a .view .now)
-    (forder-issued (held (k .before .before .before) .view) (readLog (a .m) (a .log .now) .next) (a .program) (x .issue-forder .result) (a .list .now) (x .issue-forder .last .0) (a .log .now) (x .issue-forder .ensures))
+    (forderRecord (readLog (a .m) (a .log .now) .head .next) (a .program) (a .list .now)) refl (x .issue-forder .result) (x .issue-forder .last .0) (a .view .now)
+    (forder-issued (held (k .before .before .before) .view) (readLog (a .m) (a .log .now) .head .next) (a .program) (x .issue-forder .result) (a .list .now) (x .issue-forder .last .0) (a .log .now) (x .issue-forder .ensures))
     (c .of .result) (c .of .ensures)
 
 pub forder-spec : {M : Type 1} → statement M

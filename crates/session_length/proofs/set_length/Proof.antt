@@ -90,7 +90,7 @@ issue-length-requires c κs =
     let h = held (k .before .before .before .before) in
     let i = passed e in
     let a = start (k .before .before .before .before) .args in
-    (h .log, (h .view, (issuing-room h i, issuing-able h i (lengthRecord (readLog (a .m) (a .log .now) .next) (a .program) (a .object) (a .length)) refl)))
+    (h .log, (h .view, (issuing-room h i, issuing-able h i (lengthRecord (readLog (a .m) (a .log .now) .head .next) (a .program) (a .object) (a .length)) refl)))
 
 of-requires : tie.Need-of-requires
 of-requires c κs = search needs
@@ -109,7 +109,7 @@ returns-3 c =
     let k = e .before in
     let a = start (k .before .before .before .before) .args in
     issued-outcome (change k) (k .change-refusal .result) (k .change-refusal .ensures) (e .if2 .left) (Operation.setLength (a .object) (a .length)) refl
-    (lengthRecord (readLog (a .m) (a .log .now) .next) (a .program) (a .object) (a .length)) refl (x .issue-length .result) (x .issue-length .last .0) (x .issue-length .last .1 .0) (x .issue-length .ensures)
+    (lengthRecord (readLog (a .m) (a .log .now) .head .next) (a .program) (a .object) (a .length)) refl (x .issue-length .result) (x .issue-length .last .0) (x .issue-length .last .1 .0) (x .issue-length .ensures)
     (c .of .result) (c .of .ensures)
 
 pub set-length-spec : {M : Type 1} → statement M

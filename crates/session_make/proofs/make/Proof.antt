@@ -90,7 +90,7 @@ issue-entry-requires c κs =
     (x .make-refusal .result) (x .make-refusal .ensures) in
     let i = make-issuing (a .n) (a .b) (a .m) (a .program) (a .server .now) (a .view .now) (a .log .now) h (a .directory) (a .parent) (a .name .now) (a .object)
     (change-accepted ch (k .change-refusal .result) (k .change-refusal .ensures) (at-if2 .if2 .left)) in
-    let r = make-record (a .directory) (at-kind-of .kind-of .result) (at-kind-of .kind-of .ensures) (readLog (a .m) (a .log .now) .next) (a .program)
+    let r = make-record (a .directory) (at-kind-of .kind-of .result) (at-kind-of .kind-of .ensures) (readLog (a .m) (a .log .now) .head .next) (a .program)
     (a .object) (a .parent) (a .name .now) in
     (h .log, (h .view, (issuing-room h i, (r .0, issuing-able h i _ (r .1)))))
 
@@ -117,7 +117,7 @@ returns-3 c =
     let h = admitted (a .n) (a .b) (a .m) (a .server .now) (a .view .now) (a .log .now) (sym (y .admit .ensures) ∙ at-if1 .if1 .left) in
     let ch = make-change (a .n) (a .b) (a .m) (a .program) (a .server .now) (a .view .now) (a .log .now) h (a .directory) (a .parent) (a .name .now) (a .object)
     (x .make-refusal .result) (x .make-refusal .ensures) in
-    let r = make-record (a .directory) (at-kind-of .kind-of .result) (at-kind-of .kind-of .ensures) (readLog (a .m) (a .log .now) .next)
+    let r = make-record (a .directory) (at-kind-of .kind-of .result) (at-kind-of .kind-of .ensures) (readLog (a .m) (a .log .now) .head .next)
     (a .program) (a .object) (a .parent) (a .name .now) in
     issued-outcome ch (k .change-refusal .result) (k .change-refusal .ensures) (at-if2 .if2 .left)
     (makeOperation (a .directory) (a .object) (a .parent) (a .name .now))

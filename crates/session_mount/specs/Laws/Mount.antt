@@ -1,20 +1,21 @@
 -- What was tested decides what format and mount give and leave. Assumes nothing.
 use Prim.Native.Nat.{ℕ, _*_, _-_, _≤_, _<_}
 use native.Mathlib.Omega.{arith}
-use mathlib.Core.Path.{_≡_, refl, sym, ap, _∙_}
-use mathlib.Core.List.{List, [], _∷_}
+use mathlib.Core.Path.{_≡_, refl, sym, ap, ap₂, _∙_}
+use mathlib.Core.List.{List, [], _++_}
 use mathlib.Core.Bool.{Bool, true, false, _&&_, and-eq-true-iff}
 use lib.ListN.{length, set, replicate, replicate-append-replicate}
+use lib.Seq.{set-append-left}
 use lib.Dec.{leb}
 use borrow.Author.Tests.{le-leb, lt-leb}
 use Rattle.buffer.specs.Decoded.{isSome}
-use Rattle.buffer.specs.Numeral.{bytes}
 use Rattle.volume_tree.specs.Volume.{formatted}
 use Rattle.volume_tree.specs.Stored.{encodeVolume, lent, formed, decodeVolume}
 use Rattle.volume_tree.specs.Code.Lent.{Lent}
 use Rattle.volume_tree.specs.Laws.Lent.{lent-inv, formed-decode}
 use Rattle.log.specs.Slot.{emptyLog}
-use Rattle.log.specs.Stored.{logBytes, slotBytes, lentLog, encodeSlots, encodeLog}
+use Rattle.log.specs.Stored.{nextAt, headBytes, logBytes, slotBytes, lentLog, encodeSlots, encodeLog}
+use Rattle.log.specs.Laws.Head.{empty-head}
 use Rattle.log_form.specs.Laws.Form as FormLaws
 use Rattle.session.specs.Call.{Geometry, Buffers, geometry, buffers, inRange, serverFits, lengthsFit}
 use Rattle.session.specs.Laws.Geometry.{range-lent}
@@ -22,12 +23,13 @@ use Rattle.session.specs.Step.{given, format, formatLeaves, mount}
 use Rattle.session_admission.specs.Laws.Admitted.{lengths-lent}
 
 -- The bytes of an empty log: zeros, but for the next number 1.
-pub empty-log : (m : ℕ) → set (replicate (logBytes m) 0) 0 1 ≡ encodeLog m emptyLog
-unfolding encodeLog encodeSlots bytes
+pub empty-log : (m : ℕ) → set (replicate (logBytes m) 0) nextAt 1 ≡ encodeLog m emptyLog
+unfolding encodeLog encodeSlots
 empty-log m =
     let all : m * slotBytes ≡ m * slotBytes - 0 = omega arith in
-    ap (λ (z : List ℕ). set z 0 1) (sym (replicate-append-replicate 8 (m * slotBytes) 0))
-    ∙ ap (λ (k : ℕ). 1 ∷ 0 ∷ 0 ∷ 0 ∷ 0 ∷ 0 ∷ 0 ∷ 0 ∷ replicate k 0) all
+    ap (λ (z : List ℕ). set z nextAt 1) (sym (replicate-append-replicate headBytes (m * slotBytes) 0))
+    ∙ set-append-left (replicate headBytes 0) (replicate (m * slotBytes) 0) nextAt 1 (omega arith)
+    ∙ ap₂ (λ (h : List ℕ) (k : ℕ). h ++ replicate k 0) empty-head all
 
 module _ (n b m : ℕ) (s : List ℕ) where
   -- n, b, m and the length of a volume.

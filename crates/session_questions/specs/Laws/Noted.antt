@@ -35,7 +35,7 @@ module _ (n b m p : ℕ) (s v l : List ℕ) where
 
   fine-program : 0 ≡ firstNumber (programRows (readLog m l) p) → p < 32
   unfolding firstNumber
-  fine-program e = go (ltb p 32) refl (holds (readLog m l .marks) p) e
+  fine-program e = go (ltb p 32) refl (holds (readLog m l .head .marks) p) e
     where
       go : (t : Bool) → ltb p 32 ≡ t → (h : Bool) → _≡_ {A = ℕ} 0 (cond (not t) Returned.badProgram (cond h Returned.marked 0)) → p < 32
       go true f h z = ltb-true p 32 f

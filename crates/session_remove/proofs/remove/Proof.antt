@@ -87,7 +87,7 @@ issue-entry-requires c κs =
     let is = x .remove-refusal .ensures .found (change-own ch (k .change-refusal .result) (k .change-refusal .ensures) (at-if2 .if2 .left)) in
     let i = remove-issuing (a .n) (a .b) (a .m) (a .program) (a .server .now) (a .view .now) (a .log .now) h (a .directory) (a .parent) (a .name .now)
     (x .remove-refusal .result .object) is (change-accepted ch (k .change-refusal .result) (k .change-refusal .ensures) (at-if2 .if2 .left)) in
-    let r = remove-record (readLog (a .m) (a .log .now) .next) (a .program) (x .remove-refusal .result .object) (a .parent) (a .name .now) in
+    let r = remove-record (readLog (a .m) (a .log .now) .head .next) (a .program) (x .remove-refusal .result .object) (a .parent) (a .name .now) in
     (h .log, (h .view, (issuing-room h i, (refl, issuing-able h i _ r))))
 
 of-requires : tie.Need-of-requires
@@ -114,7 +114,7 @@ returns-3 c =
     (x .remove-refusal .result .refused) (x .remove-refusal .result .object) (x .remove-refusal .ensures) in
     let is = x .remove-refusal .ensures .found
     (change-own ch (k .change-refusal .result) (k .change-refusal .ensures) (at-if2 .if2 .left)) in
-    let r = remove-record (readLog (a .m) (a .log .now) .next) (a .program) (x .remove-refusal .result .object) (a .parent) (a .name .now) in
+    let r = remove-record (readLog (a .m) (a .log .now) .head .next) (a .program) (x .remove-refusal .result .object) (a .parent) (a .name .now) in
     issued-outcome ch (k .change-refusal .result) (k .change-refusal .ensures) (at-if2 .if2 .left)
     (Operation.remove (x .remove-refusal .result .object) (a .parent) (a .name .now))
     (remove-issues (a .directory) (toldOf (modelIn (a .n) (a .b) (a .m) (a .server .now) (a .view .now) (a .log .now))) (a .program) (a .parent) (a .name .now) (x .remove-refusal .result .object) is) _ r

@@ -91,7 +91,7 @@ issue-rename-requires c κs =
     let i = rename-issuing (a .n) (a .b) (a .m) (a .program) (a .server .now) (a .view .now) (a .log .now) h (a .parent) (a .name .now) (a .second-parent)
     (a .second-name .now) (x .rename-refusal .result .object) (x .rename-refusal .result .displaced) is gone
     (change-accepted ch (k .change-refusal .result) (k .change-refusal .ensures) (at-if2 .if2 .left)) in
-    let r = rename-record (readLog (a .m) (a .log .now) .next) (a .program) (x .rename-refusal .result .object) (a .parent) (a .second-parent)
+    let r = rename-record (readLog (a .m) (a .log .now) .head .next) (a .program) (x .rename-refusal .result .object) (a .parent) (a .second-parent)
     (x .rename-refusal .result .displaced) (a .name .now) (a .second-name .now) in
     (h .log, (h .view, (issuing-room h i, issuing-able h i _ r)))
 
@@ -120,7 +120,7 @@ returns-3 c =
     let own = change-own ch (k .change-refusal .result) (k .change-refusal .ensures) (at-if2 .if2 .left) in
     let is = x .rename-refusal .ensures .found own in
     let gone = x .rename-refusal .ensures .displaces own in
-    let r = rename-record (readLog (a .m) (a .log .now) .next) (a .program) (x .rename-refusal .result .object) (a .parent) (a .second-parent)
+    let r = rename-record (readLog (a .m) (a .log .now) .head .next) (a .program) (x .rename-refusal .result .object) (a .parent) (a .second-parent)
     (x .rename-refusal .result .displaced) (a .name .now) (a .second-name .now) in
     issued-outcome ch (k .change-refusal .result) (k .change-refusal .ensures) (at-if2 .if2 .left)
     (Operation.rename (x .rename-refusal .result .object) (a .parent) (a .second-parent) (displacedBy (x .rename-refusal .result .displaced)) (a .name .now) (a .second-name .now))

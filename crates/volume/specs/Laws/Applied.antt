@@ -17,13 +17,13 @@ use Rattle.record.specs.Kind.{mapOfKind}
 use Rattle.record.specs.Operation.{createFile, makeDirectory, remove, rename, overwrite, append, setLength, Record, mapOf, operands}
 use Rattle.record.specs.Fields.{parts, standsIn, ifStands, differing, tied, between, inBlock, valid, allBelow, fits}
 use Rattle.record.specs.Laws.Record.{valid-inv}
-use Rattle.volume_entry.specs.Entry.{free, file, directory, isUsed, isFile, isDirectory, contentsOf}
+use Rattle.volume_entry.specs.Entry.{free, isUsed, isFile, isDirectory, hasName, contentsOf}
 use Rattle.volume_tree.specs.Volume.{Volume, entryAt, search, hasChildren}
 use Rattle.volume_tree.specs.Form.{wellFormed}
 use Rattle.volume_apply.specs.Apply.{isAbsent, leads, hasRoom, stays, yields, applies}
 use Rattle.volume_tree.specs.Laws.Form.{well-formed-inv}
-use Rattle.volume_tree.specs.Laws.Search.{used-below, file-below}
-use Rattle.volume_tree.specs.Laws.Change.{unused-free}
+use Rattle.volume_tree.specs.Laws.Search.{file-below, named-below}
+use Rattle.volume_entry.specs.Laws.Entry.{unused-free}
 use Rattle.volume_apply.specs.Laws.Apply.{leads-named, displaced-good}
 use Rattle.volume_applies.specs.Code.Held.{Displaces}
 
@@ -77,18 +77,18 @@ module _ (n b : ℕ) (v : Volume) (r : Record) (w : wellFormed n b v ≡ true) (
   unfolding applies
   removed o p m e =
       let t = and-eq-true-iff (leads v p m o) (not (hasChildren v o)) .0 (rw e at a) in
-      used-below v o (leads-named v p m o (t .0) .1 .used)
+      named-below v o (leads-named v p m o (t .0) .1 .named)
 
-  -- an object that is renamed is used, and what it displaces may go
+  -- an object that is renamed has a name, and what it displaces may go
   pub renamed-ready : (o p q : ℕ) (d : Option ℕ) (k m : List ℕ) → r .operation ≡ rename o p q d k m
-      → (o < length v) × (isUsed (entryAt v o) ≡ true) × (length m ≤ 60) × Displaces n b v o d
+      → (o < length v) × (hasName (entryAt v o) ≡ true) × (length m ≤ 60) × Displaces n b v o d
   unfolding applies
   renamed-ready o p q d k m e =
       let t = and-eq-true-iff (leads v p k o) (isDirectory (entryAt v q) && (stays v o p q && yields v o q d m)) .0 (rw e at a) in
       let u = and-eq-true-iff (isDirectory (entryAt v q)) (stays v o p q && yields v o q d m) .0 (t .1) in
       let y = and-eq-true-iff (stays v o p q) (yields v o q d m) .0 (u .1) in
       let x = leads-named v p k o (t .0) .1 in
-      (used-below v o (x .used), x .used, valid-length m (second-valid o p q d k m (rw e at (valid-inv r h .secondName))) .1, go d e (y .1))
+      (named-below v o (x .named), x .named, valid-length m (second-valid o p q d k m (rw e at (valid-inv r h .secondName))) .1, go d e (y .1))
     where
       go : (d : Option ℕ) → r .operation ≡ rename o p q d k m → yields v o q d m ≡ true → Displaces n b v o d
       go none e y = tt

@@ -11,7 +11,7 @@ use Rattle.record_reader.specs.declared.Whole.{Whole}
 use Rattle.record.specs.Fields.{standsIn, displacedIf}
 use Rattle.buffer.specs.Code.Span.{stretch}
 use Rattle.record_reader.specs.Code.Found.{recordFrom}
-use Rattle.volume_entry.specs.Entry.{free, isUsed, isFile, contentsOf, renamed, refilled}
+use Rattle.volume_entry.specs.Entry.{free, isFile, hasName, contentsOf, renamed, refilled}
 use Rattle.volume_entry.specs.Stored.{entryOf}
 use Rattle.buffer.specs.Patch.{patch}
 use Rattle.volume_entry.specs.Write.{resized}
@@ -62,7 +62,7 @@ module _ (n b : ℕ) (s t : List ℕ) (w : Whole) (f : Formed n b s) (g : Fittin
   -- rename, with the second name as it was found
   module _ (m : List ℕ) (q : m ≡ stretch t (w .names .second)) where
     pub rename-ready : w .head .kind ≡ Rename
-        → (w .objects .object < n) × (isUsed (entryIn n b s (w .objects .object)) ≡ true) × (length m ≤ 60)
+        → (w .objects .object < n) × (hasName (entryIn n b s (w .objects .object)) ≡ true) × (length m ≤ 60)
         × Displaces n b (readVolume n b s) (w .objects .object) (displacedIf (standsIn (w .head .map) 8) (w .objects .displaced))
     rename-ready e =
         let x = renamed-ready n b (readVolume n b s) (recordFrom t w) (f .form) (g .sound) (g .fit) a _ _ _ _ _ _ (operation-kind t w Rename e) in

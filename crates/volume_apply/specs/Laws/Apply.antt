@@ -3,7 +3,7 @@
 use Prim.Native.Nat.{ℕ, _+_, _*_, _≤_, _<_}
 use native.Mathlib.Omega.{arith}
 use mathlib.Core.Path.{_≡_, refl, sym, ap, _∙_}
-use mathlib.Core.Bool.{true, false, not, _&&_, _||_, and-eq-true-iff, false≢true}
+use mathlib.Core.Bool.{Bool, true, false, not, _&&_, _||_, and-eq-true-iff, false≢true}
 use mathlib.Core.List.{List, [], _++_}
 use mathlib.Core.Option.{Option, none, some}
 use lib.ListN.{length, set, length-append, length-set}
@@ -15,14 +15,16 @@ use Rattle.record.specs.Operation.{Operation, createFile, makeDirectory, remove
 use Rattle.record.specs.Fields.{parts, standsIn, ifStands, differing, tied, valid, allBelow, fits}
 use Rattle.buffer.specs.Patch.{patch}
 use Rattle.record.specs.Laws.Record.{valid-inv}
-use Rattle.volume_entry.specs.Entry.{Entry, free, file, directory, isUsed, isFile, isDirectory, nameOf, parentOf, contentsOf, renamed, refilled, kindNumber}
+use Rattle.volume_entry.specs.Entry.{Entry, free, file, directory, isUsed, isFile, isDirectory, hasName, nameOf, parentOf, contentsOf, renamed, refilled, kindNumber}
 use Rattle.volume_tree.specs.Volume.{Volume, entryAt, search, hasChildren}
 use Rattle.volume_tree.specs.Form.{wellFormed}
 use Rattle.volume_entry.specs.Write.{resized}
+use Rattle.volume_entry.specs.Laws.Entry.{renamed-name, renamed-parent, renamed-kind, renamed-contents, refilled-name, refilled-parent, refilled-kind, refilled-contents, file-no-directory, unused-free}
+use Rattle.volume_entry.specs.Laws.Field.{alike-directory, alike-name}
 use Rattle.volume_entry.specs.Laws.Write.{length-patch, resized-length}
 use Rattle.volume_apply.specs.Apply.{isAbsent, isAt, leads, hasRoom, stays, displaceable, yields, applies, apply}
-use Rattle.volume_tree.specs.Laws.Search.{entry-set-same, entry-set-other, used-below, Named, child-intro, named-inv, named-intro, search-found, search-none, childless}
-use Rattle.volume_tree.specs.Laws.Change.{same-or, unused-free, Sound, well-formed-sound, sound-well-formed, child-used, no-directory, leaf, place, named-before, set-sound}
+use Rattle.volume_tree.specs.Laws.Search.{entry-set-same, entry-set-other, file-below, named-below, Named, child-intro, named-inv, named-intro, search-found, search-none, childless}
+use Rattle.volume_tree.specs.Laws.Change.{same-or, Sound, well-formed-sound, sound-well-formed, child-named, no-directory, Keeps, leaf, place, named-before, set-sound}
 
 absent-none : (x : Option ℕ) → isAbsent x ≡ true → x ≡ none
 absent-none none t = refl
@@ -47,7 +49,7 @@ module _ (n b : ℕ) (v : Volume) (s : Sound n b v) where
 
   -- nothing has a name that is absent
   absent : (p : ℕ) (m : List ℕ) → search v p m ≡ none → (i : ℕ) → Named v p m i → ⊥
-  absent p m e i x = false≢true (sym (search-none v p m e i (used-below v i (x .used))) ∙ named-intro v p m i x)
+  absent p m e i x = false≢true (sym (search-none v p m e i (named-below v i (x .named))) ∙ named-intro v p m i x)
 
   -- nothing but what it leads to has a name
   found-only : (p : ℕ) (m : List ℕ) (d : ℕ) → isAt d (search v p m) ≡ true → (i : ℕ) → Named v p m i → i ≡ d
@@ -85,56 +87,49 @@ module _ (n b : ℕ) (v : Volume) (s : Sound n b v) where
   -- an object without children is nobody's parent
   parent-of-none : (o : ℕ) → (o ≡ 0 → ⊥) → not (hasChildren v o) ≡ true → (i : ℕ) → parentOf (entryAt v i) ≡ o → ⊥
   parent-of-none o z t i p =
-      let c = child-used n b v s o z i p in
-      false≢true (sym (childless v o t i (used-below v i (c .1))) ∙ child-intro v o i (c .0) (c .1) p)
+      let c = child-named n b v s o z i p in
+      false≢true (sym (childless v o t i (named-below v i (c .1))) ∙ child-intro v o i (c .0) (c .1) p)
 
   -- a file with other contents
   refilled-sound : (o : ℕ) → isFile (entryAt v o) ≡ true → (c : List ℕ) → length c ≤ 1024 * b → Sound n b (set v o (refilled (entryAt v o) c))
-  refilled-sound o t c h = go (entryAt v o) refl t
-    where
-      go : (x : Entry) → entryAt v o ≡ x → isFile x ≡ true → Sound n b (set v o (refilled x c))
-      go free e t = absurd (false≢true t)
-      go (directory m p) e t = absurd (false≢true t)
-      go (file m p y) e t =
-          let u : isUsed (entryAt v o) ≡ true = ap isUsed e in
-          let f : isDirectory (entryAt v o) ≡ false = ap isDirectory e in
-          let z : (o ≡ 0 → ⊥) = not-root o f in
-          let d : isDirectory (entryAt v p) ≡ true = rw e at (s .parent o z u) in
-          set-sound v o (file m p c) (used-below v o u) n b s z
-          (record {
-            name = λ k. rw e at (s .name o z u);
-            parent = λ k. d;
-            short = h;
-            alone = λ k i x. s .one p m i o x (record { other = z; used = u; parent = ap parentOf e; name = ap (λ (y : Entry). sameName (nameOf y) m) e ∙ same-refl m });
-            keeps = leaf (no-directory n b v s o z f) (differ p o d f);
-          })
+  refilled-sound o t c h =
+      let e = entryAt v o in
+      let f = file-no-directory e t in
+      let z = not-root o f in
+      let p = refilled-parent e c in
+      let m = refilled-name e c in
+      let u = alike-name (refilled e c) e (refilled-kind e c) in
+      set-sound v o (refilled e c) (file-below v o t) n b s z
+      (record {
+        name = λ k. rw m (s .name o z (sym u ∙ k));
+        parent = λ k. rw p (s .parent o z (sym u ∙ k));
+        short = rw (refilled-contents e c t) h;
+        alone = λ k i x. s .one (parentOf e) (nameOf e) i o (rw (p, m) at x) (record { other = z; named = sym u ∙ k; parent = refl; name = same-refl (nameOf e) });
+        keeps = leaf (no-directory n b v s o z f) (λ q. no-directory n b v s o z f o (sym p ∙ q));
+      })
 
   -- an object under another name and, if it is a file, perhaps another parent
   renamed-sound : (o p q : ℕ) (k m : List ℕ) → Named v p k o → isDirectory (entryAt v q) ≡ true → stays v o p q ≡ true → validName m ≡ true
       → ((i : ℕ) → Named v q m i → i ≡ o) → Sound n b (set v o (renamed (entryAt v o) m q))
-  renamed-sound o p q k m x d t w h = go (entryAt v o) refl (x .used) t
+  renamed-sound o p q k m x d t w h =
+      set-sound v o (renamed e m q) (named-below v o (x .named)) n b s (x .other)
+      (record {
+        name = λ j. rw (renamed-name e m q (x .named)) w;
+        parent = λ j. rw to d;
+        short = rw (renamed-contents e m q) (s .short o);
+        alone = λ j i y. h i (rw (to, renamed-name e m q (x .named)) at y);
+        keeps = keeps (isDirectory e) refl t;
+      })
     where
-      go : (y : Entry) → entryAt v o ≡ y → isUsed y ≡ true → not (isDirectory y) || eqb p q ≡ true → Sound n b (set v o (renamed y m q))
-      go free e u t = absurd (false≢true u)
-      go (file l r c) e u t =
-          let f : isDirectory (entryAt v o) ≡ false = ap isDirectory e in
-          set-sound v o (file m q c) (used-below v o (x .used)) n b s (x .other)
-          (record {
-            name = λ j. w;
-            parent = λ j. d;
-            short = rw e at (s .short o);
-            alone = λ j i y. h i y;
-            keeps = leaf (no-directory n b v s o (x .other) f) (differ q o d f);
-          })
-      go (directory l r) e u t =
-          set-sound v o (directory m q) (used-below v o (x .used)) n b s (x .other)
-          (record {
-            name = λ j. w;
-            parent = λ j. d;
-            short = omega arith;
-            alone = λ j i y. h i y;
-            keeps = place refl (sym (eqb-true p q t) ∙ sym (x .parent));
-          })
+      e : Entry
+      e = entryAt v o
+
+      to : parentOf (renamed e m q) ≡ q
+      to = renamed-parent e m q (x .named)
+
+      keeps : (r : Bool) → isDirectory e ≡ r → not r || eqb p q ≡ true → Keeps v o (renamed e m q)
+      keeps false f t = leaf (no-directory n b v s o (x .other) f) (λ j. differ q o d f (sym to ∙ j))
+      keeps true f t = place (alike-directory (renamed e m q) e (renamed-kind e m q) ∙ f) (to ∙ sym (eqb-true p q t) ∙ sym (x .parent))
 
   -- the second name of a rename without a displaced object is absent or leads to the object
   yields-only : (o q : ℕ) (m : List ℕ) → yields v o q none m ≡ true → (i : ℕ) → Named v q m i → i ≡ o
@@ -152,16 +147,16 @@ displaced-sound n b v s o p q d k m z x t w h y =
     let c = and-eq-true-iff (eqb (kindNumber (entryAt v d)) (kindNumber (entryAt v o))) (not (hasChildren v d)) .0 (a .1) in
     let g : Named v q m d = named-inv v q m d (search-found v q m d (at-some d (search v q m) (a .0)) .0) in
     let l = parent-of-none n b v s d (g .other) (c .1) in
-    let below = used-below v d (g .used) in
+    let below = named-below v d (g .named) in
     let e : entryAt (set v d free) o ≡ entryAt v o = entry-set-other v d free o z in
     let r : isDirectory (entryAt (set v d free) q) ≡ true = ap isDirectory (entry-set-other v d free q (λ j. l d (g .parent ∙ j))) ∙ t in
     let only : (i : ℕ) → Named (set v d free) q m i → i ≡ o =
     λ i u.
-    same-or i d (λ j. absurd (false≢true (sym (ap isUsed (ap (entryAt (set v d free)) j ∙ entry-set-same v d free below)) ∙ u .used)))
+    same-or i d (λ j. absurd (false≢true (sym (ap hasName (ap (entryAt (set v d free)) j ∙ entry-set-same v d free below)) ∙ u .named)))
     (λ j. absurd (j (found-only n b v s q m d (a .0) i (named-before v d free below q m i j u)))) in
     rw e at
     (renamed-sound n b (set v d free) (free-sound n b v s d below (g .other) l) o p q k m
-    (record { other = x .other; used = ap isUsed e ∙ x .used; parent = ap parentOf e ∙ x .parent; name = ap (λ (y : Entry). sameName (nameOf y) k) e ∙ x .name }) r
+    (record { other = x .other; named = ap hasName e ∙ x .named; parent = ap parentOf e ∙ x .parent; name = ap (λ (y : Entry). sameName (nameOf y) k) e ∙ x .name }) r
     (ap (λ (y : Entry). not (isDirectory y) || eqb p q) e ∙ w) h only)
 
 -- A volume is well formed without the object that a rename displaces.
@@ -172,7 +167,7 @@ displaced-good n b v w o q d m y =
     let a = and-eq-true-iff (isAt d (search v q m)) (displaceable v o d) .0 y in
     let c = and-eq-true-iff (eqb (kindNumber (entryAt v d)) (kindNumber (entryAt v o))) (not (hasChildren v d)) .0 (a .1) in
     let g : Named v q m d = named-inv v q m d (search-found v q m d (at-some d (search v q m) (a .0)) .0) in
-    let below = used-below v d (g .used) in
+    let below = named-below v d (g .named) in
     (below, sound-well-formed n b (set v d free) (free-sound n b v s d below (g .other) (parent-of-none n b v s d (g .other) (c .1))))
 
 -- by kind, from what is asked of the fields of a valid record that fits
@@ -188,7 +183,7 @@ applied-sound n b v s (makeDirectory o p m) w k t f a = new-sound n b v s o p m 
 applied-sound n b v s (remove o p m) w k t f a =
     let c = and-eq-true-iff (leads v p m o) (not (hasChildren v o)) .0 a in
     let x = leads-named v p m o (c .0) .1 in
-    free-sound n b v s o (used-below v o (x .used)) (x .other) (parent-of-none n b v s o (x .other) (c .1))
+    free-sound n b v s o (named-below v o (x .named)) (x .other) (parent-of-none n b v s o (x .other) (c .1))
 applied-sound n b v s (rename o p q none m l) w k t f a =
     let c = and-eq-true-iff (leads v p m o) (isDirectory (entryAt v q) && (stays v o p q && yields v o q none l)) .0 a in
     let d = and-eq-true-iff (isDirectory (entryAt v q)) (stays v o p q && yields v o q none l) .0 (c .1) in

@@ -14,14 +14,15 @@ use Rattle.names.specs.Name.{sameName}
 use Rattle.names.specs.Laws.Name.{same-refl as name-refl}
 use Rattle.record.specs.Operation.{Operation, createFile, makeDirectory, remove, rename, overwrite, append, setLength, forder, Record, operands}
 use Rattle.record.specs.Fields.{member, valid, fits}
-use Rattle.volume_entry.specs.Entry.{Entry, free, file, directory, isUsed, isFile, isDirectory, nameOf, parentOf, contentsOf, renamed, refilled, kindNumber}
-use Rattle.volume_entry.specs.Laws.Entry.{renamed-parent}
+use Rattle.volume_entry.specs.Entry.{Entry, free, file, directory, isUsed, isFile, isDirectory, hasName, nameOf, parentOf, contentsOf, renamed, refilled, kindNumber}
+use Rattle.volume_entry.specs.Laws.Entry.{renamed-parent, refilled-kind, refilled-name, refilled-parent, named-used}
+use Rattle.volume_entry.specs.Laws.Field.{alike-name}
 use Rattle.volume_tree.specs.Volume.{Volume, entryAt, isChild, isNamed, search, hasChildren}
 use Rattle.volume_tree.specs.Form.{wellFormed}
 use Rattle.buffer.specs.Patch.{patch}
 use Rattle.volume_entry.specs.Write.{resized}
 use Rattle.volume_apply.specs.Apply.{isAbsent, isAt, leads, hasRoom, stays, applies, apply}
-use Rattle.volume_tree.specs.Laws.Search.{entry-set-same, entry-set-other, used-below, Named, named-inv, search-found, search-none, none-search, search-set, childless, no-children, file-below}
+use Rattle.volume_tree.specs.Laws.Search.{entry-set-same, entry-set-other, named-below, Named, named-inv, search-found, search-none, none-search, search-set, childless, no-children, file-below}
 use Rattle.volume_tree.specs.Laws.Change.{same-or, well-formed-sound, named-before}
 use Rattle.volume_apply.specs.Laws.Apply.{leads-named, apply-good}
 
@@ -138,7 +139,7 @@ applies-local v w (forder k) l h = refl
 
 -- whether an entry at a number has a name in a directory
 abbrev names : Entry → ℕ → ℕ → List ℕ → Bool
-names e o d m = (not (eqb o 0) && (isUsed e && eqb (parentOf e) d)) && sameName (nameOf e) m
+names e o d m = (not (eqb o 0) && (hasName e && eqb (parentOf e) d)) && sameName (nameOf e) m
 
 -- no two entries of a volume have one name in one directory
 abbrev pub One : Volume → Type 0
@@ -183,19 +184,19 @@ module _ (v : Volume) (o : ℕ) (e : Entry) (inside : o < length v) where
   set-elsewhere i z h = same-from (entry-set-other v o e i z) (λ m. search-set v o e i m (names-set i m ∙ h m))
 
   -- It is not seen at an entry that is the parent of neither the old nor the new one.
-  set-outside : (i : ℕ) → (i ≡ o → ⊥) → (isUsed e ≡ true → parentOf e ≡ i → ⊥) → (isUsed (entryAt v o) ≡ true → parentOf (entryAt v o) ≡ i → ⊥)
+  set-outside : (i : ℕ) → (i ≡ o → ⊥) → (hasName e ≡ true → parentOf e ≡ i → ⊥) → (hasName (entryAt v o) ≡ true → parentOf (entryAt v o) ≡ i → ⊥)
       → Same (set v o e) v i
   set-outside i z f g = set-elsewhere i z (λ m. unnamed e f m ∙ sym (unnamed (entryAt v o) g m))
     where
-      unnamed : (x : Entry) → (isUsed x ≡ true → parentOf x ≡ i → ⊥) → (m : List ℕ) → names x o i m ≡ false
+      unnamed : (x : Entry) → (hasName x ≡ true → parentOf x ≡ i → ⊥) → (m : List ℕ) → names x o i m ≡ false
       unnamed x h m = go (names x o i m) refl
         where
           go : (t : Bool) → names x o i m ≡ t → names x o i m ≡ false
           go false s = s
           go true s =
-              let a = and-eq-true-iff (not (eqb o 0) && (isUsed x && eqb (parentOf x) i)) (sameName (nameOf x) m) .0 s in
-              let c = and-eq-true-iff (not (eqb o 0)) (isUsed x && eqb (parentOf x) i) .0 (a .0) in
-              let u = and-eq-true-iff (isUsed x) (eqb (parentOf x) i) .0 (c .1) in
+              let a = and-eq-true-iff (not (eqb o 0) && (hasName x && eqb (parentOf x) i)) (sameName (nameOf x) m) .0 s in
+              let c = and-eq-true-iff (not (eqb o 0)) (hasName x && eqb (parentOf x) i) .0 (a .0) in
+              let u = and-eq-true-iff (hasName x) (eqb (parentOf x) i) .0 (c .1) in
               absurd (h (u .0) (eqb-true (parentOf x) i (u .1)))
 
 -- Where two volumes agree at the changed entry and at another, they agree at that one after the change.
@@ -214,7 +215,7 @@ free-one v o h a d m i j x y =
     a d m i j (named-before v o free h d m i (other i x) x) (named-before v o free h d m j (other j y) y)
   where
     other : (k : ℕ) → Named (set v o free) d m k → k ≡ o → ⊥
-    other k z q = false≢true (sym (ap isUsed (ap (entryAt (set v o free)) q ∙ entry-set-same v o free h)) ∙ z .used)
+    other k z q = false≢true (sym (ap hasName (ap (entryAt (set v o free)) q ∙ entry-set-same v o free h)) ∙ z .named)
 
 -- what an operation that applies says of the entry that it changes
 room-there : (v : Volume) (o p : ℕ) (n : List ℕ) → hasRoom v o p n ≡ true → (o < length v) × (isUsed (entryAt v o) ≡ false)
@@ -259,20 +260,20 @@ local v w (createFile o p n) l a b c d h t i s =
 local v w (makeDirectory o p n) l a b c d h t i s =
     set-local v w o (directory n p) (directory n p) (room-there v o p n t .0) l a b c d (h o (member-first o _) .entry) refl i s
 local v w (remove o p n) l a b c d h t i s =
-    set-local v w o free free (used-below v o (remove-there v o p n t .used)) l a b c d (h o (member-first o _) .entry) refl i s
+    set-local v w o free free (named-below v o (remove-there v o p n t .named)) l a b c d (h o (member-first o _) .entry) refl i s
 local v w (rename o p q none n m) l a b c d h t i s =
     let e = h o (member-first o _) .entry in
-    set-local v w o (renamed (entryAt v o) m q) (renamed (entryAt w o) m q) (used-below v o (rename-there v o p q none n m t .used)) l a b c d e
+    set-local v w o (renamed (entryAt v o) m q) (renamed (entryAt w o) m q) (named-below v o (rename-there v o p q none n m t .named)) l a b c d e
     (ap (λ (y : Entry). renamed y m q) e) i s
 local v w (rename o p q (some k) n m) l a b c d h t i s =
     let e = h o (member-first o _) .entry in
     let r = h k (member-next k o _ (member-next k p _ (member-next k q _ (member-first k _)))) .entry in
-    let z : k < length v = used-below v k (displaced-there v o p q k n m t .used) in
+    let z : k < length v = named-below v k (displaced-there v o p q k n m t .named) in
     let a' = free-one v k z a in
     let b' = free-one w k (rw l at z) b in
     let step : (j : ℕ) → Same v w j → Same (set v k free) (set w k free) j = set-local v w k free free z l a b a' b' r refl in
     set-local (set v k free) (set w k free) o (renamed (entryAt v o) m q) (renamed (entryAt w o) m q)
-    (rw (length-set v k free) (used-below v o (rename-there v o p q (some k) n m t .used)))
+    (rw (length-set v k free) (named-below v o (rename-there v o p q (some k) n m t .named)))
     (length-set v k free ∙ l ∙ sym (length-set w k free)) a' b' c d
     (step o (h o (member-first o _)) .entry) (ap (λ (y : Entry). renamed y m q) e) i (step i s)
 local v w (overwrite o f k) l a b c d h t i s =
@@ -300,9 +301,7 @@ apply-local n b v w r g k h f a t i m =
 
 -- other contents leave a file's name and parent
 names-refilled : (e : Entry) (c : List ℕ) (o i : ℕ) (m : List ℕ) → names (refilled e c) o i m ≡ names e o i m
-names-refilled free c o i m = refl
-names-refilled (file n p b) c o i m = refl
-names-refilled (directory n p) c o i m = refl
+names-refilled e c o i m = rw (alike-name (refilled e c) e (refilled-kind e c), refilled-parent e c, refilled-name e c)
 
 -- An operation that applies changes a volume only at its operands.
 pub apply-elsewhere : (v : Volume) (x : Operation) → applies v x ≡ true → (i : ℕ) → member i (operands x) ≡ false → Same (apply v x) v i
@@ -311,24 +310,24 @@ apply-elsewhere v (createFile o p n) t i h =
     let z = member-none i o _ h in
     let y = member-none i p _ (z .1) in
     let r = room-there v o p n t in
-    set-outside v o (file n p []) (r .0) i (z .0) (λ u q. y .0 (sym q)) (λ u. absurd (false≢true (sym (r .1) ∙ u)))
+    set-outside v o (file n p []) (r .0) i (z .0) (λ u q. y .0 (sym q)) (λ u. absurd (false≢true (sym (r .1) ∙ named-used (entryAt v o) u)))
 apply-elsewhere v (makeDirectory o p n) t i h =
     let z = member-none i o _ h in
     let y = member-none i p _ (z .1) in
     let r = room-there v o p n t in
-    set-outside v o (directory n p) (r .0) i (z .0) (λ u q. y .0 (sym q)) (λ u. absurd (false≢true (sym (r .1) ∙ u)))
+    set-outside v o (directory n p) (r .0) i (z .0) (λ u q. y .0 (sym q)) (λ u. absurd (false≢true (sym (r .1) ∙ named-used (entryAt v o) u)))
 apply-elsewhere v (remove o p n) t i h =
     let z = member-none i o _ h in
     let y = member-none i p _ (z .1) in
     let r = remove-there v o p n t in
-    set-outside v o free (used-below v o (r .used)) i (z .0) (λ u. absurd (false≢true u)) (λ u q. y .0 (sym q ∙ r .parent))
+    set-outside v o free (named-below v o (r .named)) i (z .0) (λ u. absurd (false≢true u)) (λ u q. y .0 (sym q ∙ r .parent))
 apply-elsewhere v (rename o p q none n m) t i h =
     let z = member-none i o _ h in
     let y = member-none i p _ (z .1) in
     let x = member-none i q _ (y .1) in
     let r = rename-there v o p q none n m t in
-    set-outside v o (renamed (entryAt v o) m q) (used-below v o (r .used)) i (z .0)
-    (λ u e. x .0 (sym e ∙ renamed-parent (entryAt v o) m q (r .used))) (λ u e. y .0 (sym e ∙ r .parent))
+    set-outside v o (renamed (entryAt v o) m q) (named-below v o (r .named)) i (z .0)
+    (λ u e. x .0 (sym e ∙ renamed-parent (entryAt v o) m q (r .named))) (λ u e. y .0 (sym e ∙ r .parent))
 apply-elsewhere v (rename o p q (some d) n m) t i h =
     let z = member-none i o _ h in
     let y = member-none i p _ (z .1) in
@@ -336,12 +335,12 @@ apply-elsewhere v (rename o p q (some d) n m) t i h =
     let w = member-none i d _ (x .1) in
     let r = rename-there v o p q (some d) n m t in
     let k = displaced-there v o p q d n m t in
-    let below = used-below v d (k .used) in
+    let below = named-below v d (k .named) in
     same-trans
-    (set-outside (set v d free) o (renamed (entryAt v o) m q) (rw (length-set v d free) (used-below v o (r .used))) i (z .0)
-    (λ u e. x .0 (sym e ∙ renamed-parent (entryAt v o) m q (r .used)))
+    (set-outside (set v d free) o (renamed (entryAt v o) m q) (rw (length-set v d free) (named-below v o (r .named))) i (z .0)
+    (λ u e. x .0 (sym e ∙ renamed-parent (entryAt v o) m q (r .named)))
     (same-or o d
-    (λ e u. absurd (false≢true (sym (ap isUsed (ap (entryAt (set v d free)) e ∙ entry-set-same v d free below)) ∙ u)))
+    (λ e u. absurd (false≢true (sym (ap hasName (ap (entryAt (set v d free)) e ∙ entry-set-same v d free below)) ∙ u)))
     (λ e u f. y .0 (sym f ∙ ap parentOf (entry-set-other v d free o e) ∙ r .parent))))
     (set-outside v d free below i (w .0) (λ u. absurd (false≢true u)) (λ u e. x .0 (sym e ∙ k .parent)))
 apply-elsewhere v (overwrite o f c) t i h =

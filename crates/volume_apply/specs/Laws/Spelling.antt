@@ -14,7 +14,7 @@ use Rattle.record.specs.Operation.{rename}
 use Rattle.volume_entry.specs.Entry.{free, isDirectory, kindNumber, nameOf, parentOf, contentsOf, renamed}
 use Rattle.volume_entry.specs.Laws.Entry.{renamed-name, renamed-parent, renamed-kind, renamed-contents, renamed-own}
 use Rattle.volume_tree.specs.Volume.{Volume, entryAt, search}
-use Rattle.volume_tree.specs.Laws.Search.{entry-set-same, entry-set-other, used-below, search-spelling}
+use Rattle.volume_tree.specs.Laws.Search.{entry-set-same, entry-set-other, named-below, search-spelling}
 use Rattle.volume_apply.specs.Apply.{isAbsent, isAt, leads, stays, yields, applies, apply}
 use Rattle.volume_apply.specs.Spelling.{Respelled}
 use Rattle.volume_apply.specs.Laws.Apply.{leads-named}
@@ -35,12 +35,12 @@ unfolding applies apply
 respelled v o p n k t =
     let x = leads-named v p n o (and-eq-true-iff (leads v p n o) (isDirectory (entryAt v p) && (stays v o p p && yields v o p none k)) .0 t .0) .1 in
     let e = renamed (entryAt v o) k p in
-    let there : entryAt (set v o e) o ≡ e = entry-set-same v o e (used-below v o (x .used)) in
-    let name : nameOf (entryAt (set v o e) o) ≡ k = ap nameOf there ∙ renamed-name (entryAt v o) k p (x .used) in
+    let there : entryAt (set v o e) o ≡ e = entry-set-same v o e (named-below v o (x .named)) in
+    let name : nameOf (entryAt (set v o e) o) ≡ k = ap nameOf there ∙ renamed-name (entryAt v o) k p (x .named) in
     record {
       spelling = name;
       kind = ap kindNumber there ∙ renamed-kind (entryAt v o) k p;
-      parent = ap parentOf there ∙ renamed-parent (entryAt v o) k p (x .used) ∙ sym (x .parent);
+      parent = ap parentOf there ∙ renamed-parent (entryAt v o) k p (x .named) ∙ sym (x .parent);
       contents = ap contentsOf there ∙ renamed-contents (entryAt v o) k p;
       others = λ i z. entry-set-other v o e i z;
       nothing = (

@@ -3,7 +3,7 @@
 use Prim.Native.Nat.{ℕ, _+_, _*_, _/_, _%_, _^_, _≤_, _<_, _-_}
 use native.Mathlib.Omega.{arith}
 use mathlib.Core.Path.{_≡_, refl, sym, ap, ap₂, _∙_}
-use mathlib.Core.Bool.{true, false, _&&_, and-eq-true-iff, false≢true}
+use mathlib.Core.Bool.{Bool, true, false, _&&_, and-eq-true-iff, false≢true}
 use mathlib.Core.List.{List, [], _∷_, _++_, append-assoc}
 use lib.ListN.{length, take, drop, replicate, length-append, length-replicate, replicate-append-replicate}
 use lib.Dec.{eqb}
@@ -11,7 +11,7 @@ use borrow.Author.Tests.{eq-eqb, eqb-true}
 use lib.Seq.{take-append-seam, drop-at, drop-drop}
 use Rattle.buffer.specs.Numeral.{bytes, numeral}
 use Rattle.buffer.specs.Laws.Numeral.{length-bytes, numeral-bytes}
-use Rattle.volume_entry.specs.Entry.{Entry, free, file, directory, kindNumber, isUsed, nameOf, parentOf, contentsOf, renamed, isFile}
+use Rattle.volume_entry.specs.Entry.{Entry, free, file, directory, kindNumber, nameOf, parentOf, contentsOf, isUsed, isFile, isDirectory, hasName, renamed, refilled}
 use Rattle.volume_entry.specs.Stored.{padded, entryBytes, encodeEntry, sameBytes, sameEntry, entryOf, readEntry}
 
 -- Bytes that are found to be the same are equal.
@@ -114,13 +114,13 @@ read-entry b e h p k m =
     ∙ ap₂ (λ (j : ℕ) (s : List ℕ). entryOf (kindNumber e) n j s) parent contents
     ∙ entry-of e
 
--- A used entry under another name and parent has these, and its kind and contents as they were.
-pub renamed-name : (e : Entry) (n : List ℕ) (p : ℕ) → isUsed e ≡ true → nameOf (renamed e n p) ≡ n
+-- An entry with a name, under another name and parent, has these, and its kind and contents as they were.
+pub renamed-name : (e : Entry) (n : List ℕ) (p : ℕ) → hasName e ≡ true → nameOf (renamed e n p) ≡ n
 renamed-name free n p u = absurd (false≢true u)
 renamed-name (file m q c) n p u = refl
 renamed-name (directory m q) n p u = refl
 
-pub renamed-parent : (e : Entry) (n : List ℕ) (p : ℕ) → isUsed e ≡ true → parentOf (renamed e n p) ≡ p
+pub renamed-parent : (e : Entry) (n : List ℕ) (p : ℕ) → hasName e ≡ true → parentOf (renamed e n p) ≡ p
 renamed-parent free n p u = absurd (false≢true u)
 renamed-parent (file m q c) n p u = refl
 renamed-parent (directory m q) n p u = refl
@@ -141,8 +141,70 @@ renamed-own free = refl
 renamed-own (file m q c) = refl
 renamed-own (directory m q) = refl
 
--- a file is used
+-- An entry with other contents has its kind, name and parent as they were; of a file they are its contents.
+pub refilled-kind : (e : Entry) (c : List ℕ) → kindNumber (refilled e c) ≡ kindNumber e
+refilled-kind free c = refl
+refilled-kind (file n p d) c = refl
+refilled-kind (directory n p) c = refl
+
+pub refilled-name : (e : Entry) (c : List ℕ) → nameOf (refilled e c) ≡ nameOf e
+refilled-name free c = refl
+refilled-name (file n p d) c = refl
+refilled-name (directory n p) c = refl
+
+pub refilled-parent : (e : Entry) (c : List ℕ) → parentOf (refilled e c) ≡ parentOf e
+refilled-parent free c = refl
+refilled-parent (file n p d) c = refl
+refilled-parent (directory n p) c = refl
+
+pub refilled-contents : (e : Entry) (c : List ℕ) → isFile e ≡ true → contentsOf (refilled e c) ≡ c
+refilled-contents free c t = absurd (false≢true t)
+refilled-contents (file n p d) c t = refl
+refilled-contents (directory n p) c t = absurd (false≢true t)
+
+-- The last contents count.
+pub refilled-twice : (e : Entry) (c d : List ℕ) → refilled (refilled e c) d ≡ refilled e d
+refilled-twice free c d = refl
+refilled-twice (file n p b) c d = refl
+refilled-twice (directory n p) c d = refl
+
+-- A file is used, a directory is, and what has a name is.
 pub file-used : (e : Entry) → isFile e ≡ true → isUsed e ≡ true
 file-used free t = t
 file-used (file n p c) t = refl
 file-used (directory n p) t = refl
+
+pub directory-used : (e : Entry) → isDirectory e ≡ true → isUsed e ≡ true
+directory-used free t = t
+directory-used (file n p c) t = refl
+directory-used (directory n p) t = refl
+
+pub named-used : (e : Entry) → hasName e ≡ true → isUsed e ≡ true
+named-used free t = t
+named-used (file n p c) t = refl
+named-used (directory n p) t = refl
+
+-- No entry is both a file and a directory.
+pub file-no-directory : (e : Entry) → isFile e ≡ true → isDirectory e ≡ false
+file-no-directory free t = refl
+file-no-directory (file n p c) t = refl
+file-no-directory (directory n p) t = absurd (false≢true t)
+
+pub directory-no-file : (e : Entry) → isDirectory e ≡ true → isFile e ≡ false
+directory-no-file e t = go (isFile e) refl
+  where
+    go : (b : Bool) → isFile e ≡ b → b ≡ false
+    go true f = sym t ∙ file-no-directory e f
+    go false f = refl
+
+-- What is used and no file is a directory.
+pub other-directory : (e : Entry) → isUsed e ≡ true → isFile e ≡ false → isDirectory e ≡ true
+other-directory free u t = u
+other-directory (file n p c) u t = absurd (false≢true (sym t))
+other-directory (directory n p) u t = refl
+
+-- An entry that is not used is free.
+pub unused-free : (e : Entry) → isUsed e ≡ false → e ≡ free
+unused-free free t = refl
+unused-free (file n p c) t = absurd (false≢true (sym t))
+unused-free (directory n p) t = absurd (false≢true (sym t))

@@ -3,12 +3,12 @@
 use Prim.Native.Nat.{ℕ, zero, suc, _≤_, _<_}
 use mathlib.Core.Bool.{true, false, not, false≢true}
 use mathlib.Core.List.{List, []}
-use mathlib.Core.Path.{_≡_, refl, sym}
+use mathlib.Core.Path.{_≡_, refl, sym, ap, _∙_}
 use native.Mathlib.Omega.{arith}
 use lib.Dec.{eqb}
 use lib.ListN.{getD, take, drop}
 use Rattle.buffer.specs.Numeral.{numeral}
-use Rattle.volume_entry.specs.Entry.{Entry, free, file, directory, kindNumber, nameOf, parentOf, contentsOf, isUsed, isFile, isDirectory}
+use Rattle.volume_entry.specs.Entry.{Entry, free, file, directory, kindNumber, nameOf, parentOf, contentsOf, isUsed, isFile, isDirectory, hasName}
 use Rattle.volume_entry.specs.Stored.{entryOf, readEntry}
 
 -- An entry is used where its kind's number is not 0.
@@ -29,17 +29,42 @@ directory-kind free = refl
 directory-kind (file n p c) = refl
 directory-kind (directory n p) = refl
 
--- An entry that is not used has no name and no parent.
-pub unused-fields : (e : Entry) → isUsed e ≡ false → (nameOf e ≡ []) × (parentOf e ≡ 0)
-unused-fields free h = (refl, refl)
-unused-fields (file n p c) h = absurd (false≢true (sym h))
-unused-fields (directory n p) h = absurd (false≢true (sym h))
+-- An entry has a name where its kind's number is not 0.
+pub named-kind : (e : Entry) → not (eqb (kindNumber e) 0) ≡ hasName e
+named-kind free = refl
+named-kind (file n p c) = refl
+named-kind (directory n p) = refl
+
+-- Entries of one kind are alike a file, a directory, or with a name.
+module _ (d e : Entry) (same : kindNumber d ≡ kindNumber e) where
+  pub alike-file : isFile d ≡ isFile e
+  alike-file = sym (file-kind d) ∙ ap (λ (k : ℕ). eqb k 1) same ∙ file-kind e
+
+  pub alike-directory : isDirectory d ≡ isDirectory e
+  alike-directory = sym (directory-kind d) ∙ ap (λ (k : ℕ). eqb k 2) same ∙ directory-kind e
+
+  pub alike-name : hasName d ≡ hasName e
+  alike-name = sym (named-kind d) ∙ ap (λ (k : ℕ). not (eqb k 0)) same ∙ named-kind e
+
+-- The name of an entry without one is empty, and its parent 0.
+pub unnamed-fields : (e : Entry) → hasName e ≡ false → (nameOf e ≡ []) × (parentOf e ≡ 0)
+unnamed-fields free h = (refl, refl)
+unnamed-fields (file n p c) h = absurd (false≢true (sym h))
+unnamed-fields (directory n p) h = absurd (false≢true (sym h))
 
 -- An entry that is no file has no contents.
 pub other-contents : (e : Entry) → isFile e ≡ false → contentsOf e ≡ []
 other-contents free h = refl
 other-contents (file n p c) h = absurd (false≢true (sym h))
 other-contents (directory n p) h = refl
+
+-- A new entry, of the number of a file or a directory, has that number, its name and parent, and no contents.
+pub new-fields : (k : ℕ) (n : List ℕ) (p : ℕ) → 1 ≤ k → k ≤ 2
+    → (kindNumber (entryOf k n p []) ≡ k) × (nameOf (entryOf k n p []) ≡ n) × (parentOf (entryOf k n p []) ≡ p) × (contentsOf (entryOf k n p []) ≡ [])
+new-fields zero n p h l = absurd (omega arith)
+new-fields (suc zero) n p h l = (refl, refl, refl, refl)
+new-fields (suc (suc zero)) n p h l = (refl, refl, refl, refl)
+new-fields (suc (suc (suc k))) n p h l = absurd (omega arith)
 
 -- the kind's number and the fields, by the byte that stores the kind
 module _ (n : List ℕ) (p : ℕ) (c : List ℕ) where
@@ -53,7 +78,7 @@ module _ (n : List ℕ) (p : ℕ) (c : List ℕ) where
   above (suc zero) h = absurd (omega arith)
   above (suc (suc k)) h = refl
 
-  fields : (k : ℕ) → isUsed (entryOf k n p c) ≡ true → (nameOf (entryOf k n p c) ≡ n) × (parentOf (entryOf k n p c) ≡ p)
+  fields : (k : ℕ) → hasName (entryOf k n p c) ≡ true → (nameOf (entryOf k n p c) ≡ n) × (parentOf (entryOf k n p c) ≡ p)
   fields zero h = absurd (false≢true h)
   fields (suc zero) h = (refl, refl)
   fields (suc (suc k)) h = (refl, refl)
@@ -74,11 +99,11 @@ module _ (s : List ℕ) where
   unfolding readEntry
   kind-above = above _ _ _ (getD s 0 0)
 
-  -- An entry that is used has the name and the parent that stand in its bytes.
-  pub used-fields : isUsed (readEntry s) ≡ true
+  -- An entry with a name has the name and the parent that stand in its bytes.
+  pub named-fields : hasName (readEntry s) ≡ true
       → (nameOf (readEntry s) ≡ take (getD s 1 0) (drop 4 s)) × (parentOf (readEntry s) ≡ numeral (take 2 (drop 2 s)))
   unfolding readEntry
-  used-fields = fields _ _ _ (getD s 0 0)
+  named-fields = fields _ _ _ (getD s 0 0)
 
   -- A file has the contents that stand in its bytes.
   pub file-contents : isFile (readEntry s) ≡ true → contentsOf (readEntry s) ≡ take (numeral (take 4 (drop 64 s))) (drop 68 s)

@@ -2,13 +2,13 @@
 -- sound (document 01, "Geometry and stored form").
 use Prim.Native.Nat.{ℕ, _+_, _*_}
 use mathlib.Core.List.{List}
-use mathlib.Core.Bool.{Bool, true, _&&_}
+use mathlib.Core.Bool.{Bool, not, _&&_, _||_}
 use lib.ListN.{length, getD, take, drop}
 use lib.Dec.{leb, eqb}
 use Rattle.buffer.specs.Geometry.{blockBytes}
 use Rattle.names.specs.Name.{longestName, validName}
 use Rattle.buffer.specs.Numeral.{numeral}
-use Rattle.volume_entry.specs.Entry.{Entry, free, file, directory, root, kindNumber}
+use Rattle.volume_entry.specs.Entry.{Entry, free, file, directory, root, kindNumber, nameOf, contentsOf, hasName}
 use Rattle.volume_entry.specs.Stored.{lengthAt, dataAt, readEntry}
 use Rattle.buffer.specs.Code.Zero.{zeros}
 
@@ -42,6 +42,4 @@ rootFormed s = eqb (getD s 0 0) (kindNumber root) && zeros (drop 1 s)
 
 -- what the form asks of an entry other than the root, whatever the other entries are
 abbrev pub sound : ℕ → Entry → Bool
-sound b free = true
-sound b (file n p c) = validName n && leb (length c) (blockBytes * b)
-sound b (directory n p) = validName n
+sound b e = leb (length (contentsOf e)) (blockBytes * b) && (not (hasName e) || validName (nameOf e))

@@ -125,7 +125,7 @@ formed-entry b (a ∷ []) h byte f = absurd (omega arith)
 formed-entry b (a ∷ l ∷ []) h byte f = absurd (omega arith)
 formed-entry b (a ∷ l ∷ p ∷ []) h byte f = absurd (omega arith)
 formed-entry b (zero ∷ l ∷ p ∷ q ∷ t) h byte f =
-    (refl, free-zero b ∙ ap (λ (n : ℕ). replicate n 0) (sym h) ∙ sym (zeros-replicate _ f))
+    (rw (le-leb 0 (1024 * b) (omega arith)), free-zero b ∙ ap (λ (n : ℕ). replicate n 0) (sym h) ∙ sym (zeros-replicate _ f))
 formed-entry b (suc zero ∷ l ∷ p ∷ q ∷ t) h byte f =
     let s : List ℕ = 1 ∷ l ∷ p ∷ q ∷ t in
     let x = and-eq-true-iff (nameFormed s) (dataFormed b s) .0 f in
@@ -148,7 +148,8 @@ formed-entry b (suc (suc zero) ∷ l ∷ p ∷ q ∷ t) h byte f =
     let room : length (drop 60 t) ≡ 4 + 1024 * b = length-drop 60 t ∙ omega arith in
     let rest : bytes 4 0 ++ padded (1024 * b) [] ≡ drop 60 t =
     no-contents b ∙ ap (λ (n : ℕ). replicate n 0) (sym room) ∙ sym (zeros-replicate (drop 60 t) (x .1)) in
-    header b (readEntry s) 2 l p q t (omega arith) refl (omega arith) refl (x .0) (number-back 2 2 s (omega arith) byte) rest
+    let n = header b (readEntry s) 2 l p q t (omega arith) refl (omega arith) refl (x .0) (number-back 2 2 s (omega arith) byte) rest in
+    (rw (n .0, le-leb 0 (1024 * b) (omega arith)), n .1)
 formed-entry b (suc (suc (suc a)) ∷ l ∷ p ∷ q ∷ t) h byte f =
     let z : suc (suc (suc a)) ≡ 2 = eqb-true _ 2 (and-eq-true-iff (eqb (suc (suc (suc a))) 2) _ .0 f .0) in
     absurd (omega arith)
@@ -167,15 +168,15 @@ entry-formed b (suc zero ∷ l ∷ p ∷ q ∷ t) pos h byte v e =
     let k = lengthField s in
     let d = drop 64 t in
     let c = take k d in
-    let x = and-eq-true-iff (validName (take l t)) (leb (length c) (1024 * b)) .0 v in
-    let y = header-inv b (readEntry s) 1 l p q t (x .0) refl e in
+    let x = and-eq-true-iff (leb (length c) (1024 * b)) (validName (take l t)) .0 v in
+    let y = header-inv b (readEntry s) 1 l p q t (x .1) refl e in
     let room : length (take 4 (drop 60 t)) ≡ 4 = length-take-le 4 (drop 60 t) (rw (length-drop 60 t) (omega arith)) in
     let most : k < 256 ^ 4 = rw room at (numeral-below (take 4 (drop 60 t)) (bytes-part s 4 64 byte)) in
     let few : length c ≤ k = rw (length-take k d) (omega arith) in
     let four : bytes 4 (length c) ≡ take 4 (drop 60 t) =
     sym (take-at (bytes 4 (length c)) (padded (1024 * b) c) 4 (length-bytes 4 (length c))) ∙ ap (take 4) (y .1) in
     let size : k ≡ length c = ap numeral (sym four) ∙ numeral-bytes 4 (length c) (omega arith) in
-    let fits : length c ≤ 1024 * b = leb-true (length c) (1024 * b) (x .1) in
+    let fits : length c ≤ 1024 * b = leb-true (length c) (1024 * b) (x .0) in
     let behind : d ≡ padded (1024 * b) c =
     sym (drop-drop 4 60 t) ∙ ap (drop 4) (sym (y .1)) ∙ drop-at (bytes 4 (length c)) (padded (1024 * b) c) 4 (length-bytes 4 (length c)) in
     let z : zeros (drop (68 + k) s) ≡ true =
@@ -183,7 +184,7 @@ entry-formed b (suc zero ∷ l ∷ p ∷ q ∷ t) pos h byte v e =
     rw (y .0, le-leb k (1024 * b) (omega arith)) z
 entry-formed b (suc (suc zero) ∷ l ∷ p ∷ q ∷ t) pos h byte v e =
     let s : List ℕ = 2 ∷ l ∷ p ∷ q ∷ t in
-    let y = header-inv b (readEntry s) 2 l p q t v refl e in
+    let y = header-inv b (readEntry s) 2 l p q t (and-eq-true-iff (leb 0 (1024 * b)) (validName (take l t)) .0 v .1) refl e in
     rw (y .0) (ap zeros (sym (y .1) ∙ no-contents b) ∙ replicate-zeros (4 + 1024 * b))
 entry-formed b (suc (suc (suc a)) ∷ l ∷ p ∷ q ∷ t) pos h byte v e =
     let z = kind-first b (readEntry (suc (suc (suc a)) ∷ l ∷ p ∷ q ∷ t)) (suc (suc (suc a))) (l ∷ p ∷ q ∷ t) e in

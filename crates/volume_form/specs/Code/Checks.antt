@@ -4,7 +4,7 @@ use mathlib.Core.List.{List}
 use mathlib.Core.Bool.{Bool, not, _&&_, _||_}
 use lib.ListN.{length, getD}
 use lib.Dec.{eqb}
-use Rattle.volume_entry.specs.Entry.{isUsed, isDirectory, parentOf}
+use Rattle.volume_entry.specs.Entry.{isDirectory, hasName, parentOf}
 use Rattle.volume_entry_form.specs.Code.Check.{entryFormed, rootFormed}
 use Rattle.volume_tree.specs.Volume.{Volume, entryAt, every}
 use Rattle.volume_tree.specs.Code.Lent.{entryPart}
@@ -15,7 +15,7 @@ entriesFormed n b s = rootFormed (entryPart b s 0) && every n (λ i. eqb i 0 || 
 
 -- "Every other used entry has .. a used directory as parent"
 abbrev pub parented : Volume → ℕ → Bool
-parented v i = eqb i 0 || (not (isUsed (entryAt v i)) || isDirectory (entryAt v (parentOf (entryAt v i))))
+parented v i = eqb i 0 || (not (hasName (entryAt v i)) || isDirectory (entryAt v (parentOf (entryAt v i))))
 
 unfoldable pub parentsFormed : Volume → Bool
 parentsFormed v = every (length v) (parented v)

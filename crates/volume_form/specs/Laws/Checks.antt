@@ -3,7 +3,7 @@
 use Prim.Native.Nat.{ℕ, zero, suc, _*_, _≤_, _<_}
 use native.Mathlib.Omega.{arith}
 use mathlib.Core.Path.{_≡_, refl, sym, ap, _∙_}
-use mathlib.Core.List.{List, []}
+use mathlib.Core.List.{List}
 use mathlib.Core.Bool.{Bool, true, false, not, _&&_, _||_, and-eq-true-iff, false≢true}
 use lib.ListN.{length, getD}
 use lib.Dec.{leb, eqb}
@@ -13,21 +13,21 @@ use Rattle.names.specs.Name.{validName, sameName}
 use Rattle.names.specs.Laws.Name.{same-sym}
 use Rattle.buffer.specs.Numeral.{Bytes}
 use Rattle.buffer.specs.Laws.Numeral.{bytes-part}
-use Rattle.volume_entry.specs.Entry.{Entry, free, file, directory, root, isUsed, isDirectory, nameOf, parentOf, contentsOf}
+use Rattle.volume_entry.specs.Entry.{Entry, root, isDirectory, hasName, nameOf, parentOf, contentsOf}
 use Rattle.volume_entry.specs.Stored.{entryBytes, encodeEntry, readEntry}
 use Rattle.volume_entry_form.specs.Code.Check.{entryFormed, rootFormed, sound}
 use Rattle.volume_entry_form.specs.Laws.Check.{formed-root, root-formed, formed-entry, entry-formed}
 use Rattle.volume_tree.specs.Volume.{Volume, entryAt, every, isChild}
 use Rattle.volume_tree.specs.Form.{climbs, placed, twins}
-use Rattle.volume_tree.specs.Laws.Form.{every-inv, every-intro, Placed, placed-inv, placed-intro, Good, well-formed-inv, good-well-formed}
+use Rattle.volume_tree.specs.Laws.Form.{implies, every-inv, every-intro, placed-inv, placed-intro, Good, well-formed-inv, good-well-formed}
 use Rattle.volume_tree.specs.Stored.{encodeVolume, readVolume, formed}
-use Rattle.volume_tree.specs.Laws.Stored.{good-sized, directory-below}
-use Rattle.volume_tree.specs.Laws.Search.{used-below}
-use Rattle.volume_tree.specs.Laws.Change.{unused-free}
+use Rattle.volume_tree.specs.Laws.Stored.{good-sized}
+use Rattle.volume_tree.specs.Laws.Search.{directory-below, named-below}
+use Rattle.volume_tree.specs.Laws.Change.{parent-cases, good-placed}
 use Rattle.volume_tree.specs.Code.Lent.{Lent, entryPart, Formed}
 use Rattle.volume_tree.specs.Laws.Lent.{formed-inv, formed-intro, entry-read, length-read, length-part}
 use Rattle.volume_tree.specs.Laws.Part.{encode-part, parts-encode}
-use Rattle.volume_tree.specs.Laws.Climb.{implies, climbs-root, climbs-step}
+use Rattle.volume_tree.specs.Laws.Climb.{climbs-root, climbs-step}
 use Rattle.volume_unique.specs.Code.Checks.{aloneFrom, allAlone}
 use Rattle.volume_form.specs.Code.Checks.{entriesFormed, parentsFormed, climbsBy, allLead}
 
@@ -49,21 +49,17 @@ unfolding climbsBy climbs
 climbs-by zero v l same i = refl
 climbs-by (suc k) v l same i = ap (λ (t : Bool). eqb i 0 || t) (climbs-by k v l same (getD l i 0) ∙ ap (climbs k v) (same i))
 
--- A used entry that is sound has a valid name and a length that fits.
-sound-inv : (b : ℕ) (e : Entry) → isUsed e ≡ true → sound b e ≡ true → (validName (nameOf e) ≡ true) × (length (contentsOf e) ≤ 1024 * b)
-sound-inv b free u t = absurd (false≢true u)
-sound-inv b (file n p c) u t =
-    let x = and-eq-true-iff (validName n) (leb (length c) (1024 * b)) .0 t in
-    (x .0, leb-true (length c) (1024 * b) (x .1))
-sound-inv b (directory n p) u t = (t, omega arith)
+-- A sound entry has a length that fits and, with a name, a valid one.
+sound-inv : (b : ℕ) (e : Entry) → sound b e ≡ true → (length (contentsOf e) ≤ 1024 * b) × (hasName e ≡ true → validName (nameOf e) ≡ true)
+sound-inv b e t =
+    let x = and-eq-true-iff (leb (length (contentsOf e)) (1024 * b)) (not (hasName e) || validName (nameOf e)) .0 t in
+    (leb-true (length (contentsOf e)) (1024 * b) (x .0), λ u. or-other (not (hasName e)) (validName (nameOf e)) (ap not u) (x .1))
 
 -- An entry in its place is sound.
 placed-sound : (b : ℕ) (v : Volume) (i : ℕ) (e : Entry) → placed b v i e ≡ true → sound b e ≡ true
-placed-sound b v i free t = refl
-placed-sound b v i (file n p c) t =
-    let x = placed-inv b v i (file n p c) refl t in
-    rw (x .name) (le-leb (length c) (1024 * b) (x .fits))
-placed-sound b v i (directory n p) t = placed-inv b v i (directory n p) refl t .name
+placed-sound b v i e t =
+    let x = placed-inv b v i e t in
+    rw (le-leb (length (contentsOf e)) (1024 * b) (x .0)) (implies (hasName e) (validName (nameOf e)) (λ u. x .1 u .name))
 
 -- Two entries that share parent and name do so in either order.
 twins-swap : (v : Volume) (i j : ℕ) → twins v i j ≡ true → twins v j i ≡ true
@@ -72,9 +68,9 @@ twins-swap v i j t =
     let y = entryAt v j in
     let a = and-eq-true-iff (isChild v (parentOf x) i && isChild v (parentOf x) j) (sameName (nameOf x) (nameOf y)) .0 t in
     let c = and-eq-true-iff (isChild v (parentOf x) i) (isChild v (parentOf x) j) .0 (a .0) in
-    let d = and-eq-true-iff (not (eqb j 0)) (isUsed y && eqb (parentOf y) (parentOf x)) .0 (c .1) in
+    let d = and-eq-true-iff (not (eqb j 0)) (hasName y && eqb (parentOf y) (parentOf x)) .0 (c .1) in
     let p : parentOf y ≡ parentOf x =
-    eqb-true (parentOf y) (parentOf x) (and-eq-true-iff (isUsed y) (eqb (parentOf y) (parentOf x)) .0 (d .1) .1) in
+    eqb-true (parentOf y) (parentOf x) (and-eq-true-iff (hasName y) (eqb (parentOf y) (parentOf x)) .0 (d .1) .1) in
     and-eq-true-iff (isChild v (parentOf y) j && isChild v (parentOf y) i) (sameName (nameOf y) (nameOf x)) .1 (
       and-eq-true-iff (isChild v (parentOf y) j) (isChild v (parentOf y) i) .1
           (ap (λ (d : ℕ). isChild v d j) p ∙ c .1, ap (λ (d : ℕ). isChild v d i) p ∙ c .0),
@@ -96,23 +92,13 @@ alone-apart v a i j h k z = go (leb j i) (twins v i j) refl refl
     go true false e t = t
     go true true e t = absurd (false≢true (sym (later j i k h (omega (arith, leb-true j i e))) ∙ twins-swap v i j t))
 
--- An entry of a volume with a root has parent 0, or is a used one other than the root.
-parent-cases : {C : Type 0} (v : Volume) (i : ℕ) → entryAt v 0 ≡ root → (parentOf (entryAt v i) ≡ 0 → C)
-    → (i < length v → eqb i 0 ≡ false → isUsed (entryAt v i) ≡ true → C) → C
-parent-cases {C} v i r f g = go (isUsed (entryAt v i)) (eqb i 0) refl refl
-  where
-    go : (x y : Bool) → isUsed (entryAt v i) ≡ x → eqb i 0 ≡ y → C
-    go false y u z = f (ap parentOf (unused-free (entryAt v i) u))
-    go true true u z = f (ap parentOf (ap (entryAt v) (eqb-true i 0 z) ∙ r))
-    go true false u z = g (used-below v i u) z u
-
--- Each used entry but the root has a directory as parent, if the parents are formed.
-parents-inv : (v : Volume) → parentsFormed v ≡ true → (i : ℕ) → i < length v → eqb i 0 ≡ false → isUsed (entryAt v i) ≡ true
+-- Each entry with a name but the root has a directory as parent, if the parents are formed.
+parents-inv : (v : Volume) → parentsFormed v ≡ true → (i : ℕ) → (i ≡ 0 → ⊥) → hasName (entryAt v i) ≡ true
     → isDirectory (entryAt v (parentOf (entryAt v i))) ≡ true
 unfolding parentsFormed
-parents-inv v p i h z u =
-    or-other (not (isUsed (entryAt v i))) (isDirectory (entryAt v (parentOf (entryAt v i)))) (ap not u)
-    (others-inv (length v) (λ i. eqb i 0) (λ i. not (isUsed (entryAt v i)) || isDirectory (entryAt v (parentOf (entryAt v i)))) p i h z)
+parents-inv v p i z u =
+    or-other (not (hasName (entryAt v i))) (isDirectory (entryAt v (parentOf (entryAt v i)))) (ap not u)
+    (others-inv (length v) (λ i. eqb i 0) (λ i. not (hasName (entryAt v i)) || isDirectory (entryAt v (parentOf (entryAt v i)))) p i (named-below v i u) (ne-eqb i 0 z))
 
 module _ (n b : ℕ) (s : List ℕ) (l : Lent n b s) (byte : Bytes s) (e : entriesFormed n b s ≡ true) where
   -- The first part is formed as the root's, and each other as an entry's.
@@ -123,7 +109,7 @@ module _ (n b : ℕ) (s : List ℕ) (l : Lent n b s) (byte : Bytes s) (e : entri
       (x .0, others-inv n (λ i. eqb i 0) (λ i. entryFormed b (entryPart b s i)) (x .1))
 
   -- The first entry is the root, and its part is its bytes.
-  first-entry : (entryAt (readVolume n b s) 0 ≡ directory [] 0) × (encodeEntry b (readEntry (entryPart b s 0)) ≡ entryPart b s 0)
+  first-entry : (entryAt (readVolume n b s) 0 ≡ root) × (encodeEntry b (readEntry (entryPart b s 0)) ≡ entryPart b s 0)
   first-entry =
       let h : 0 < n = omega arith in
       let r = formed-root b (entryPart b s 0) (length-part n b s l 0 h) (parts-formed .0) in
@@ -165,15 +151,14 @@ checks-formed n b s lent byte l same e p t a =
     size = length-read n b s
 
     each : (i : ℕ) → i < length v → (i ≡ 0 → ⊥) → placed b v i (entryAt v i) ≡ true
-    each i h z = placed-intro b v i (entryAt v i) (λ u.
+    each i h z =
         let m : i < n = omega (arith, size) in
-        let o = ne-eqb i 0 z in
-        let x = sound-inv b (entryAt v i) u (other-entry n b s lent byte e i m o .0) in
+        let x = sound-inv b (entryAt v i) (other-entry n b s lent byte e i m (ne-eqb i 0 z) .0) in
+        placed-intro b v i (entryAt v i) (x .0) (λ u.
         record {
-          name = x .0;
-          parent = parents-inv v p i h o u;
+          name = x .1 u;
+          parent = parents-inv v p i z u;
           leads = ap (λ (k : ℕ). climbs k v i) size ∙ sym (climbs-by n v l same i) ∙ every-inv n (climbsBy n l) t i m;
-          fits = x .1;
         })
 
 -- An entry with parent 0 is led to 0 in a step.
@@ -182,25 +167,21 @@ leads-at-once zero v i h p = absurd (omega arith)
 leads-at-once (suc k) v i h p = climbs-step k v i (ap (climbs k v) p ∙ climbs-root k v)
 
 module _ (n b : ℕ) (v : Volume) (g : Good n b v) where
-  -- Each used entry but the root of a well-formed volume has what is asked of it.
-  good-placed : (i : ℕ) → i < length v → eqb i 0 ≡ false → isUsed (entryAt v i) ≡ true → Placed b v i (entryAt v i)
-  good-placed i h z u = placed-inv b v i (entryAt v i) u (g .each i h (eqb-false i 0 z))
-
   -- The parents of a well-formed volume are formed.
   good-parents : parentsFormed v ≡ true
   unfolding parentsFormed
   good-parents =
-      others-intro (length v) (λ i. eqb i 0) (λ i. not (isUsed (entryAt v i)) || isDirectory (entryAt v (parentOf (entryAt v i))))
-      (λ i h z. implies (isUsed (entryAt v i)) (isDirectory (entryAt v (parentOf (entryAt v i)))) (λ u. good-placed i h z u .parent))
+      others-intro (length v) (λ i. eqb i 0) (λ i. not (hasName (entryAt v i)) || isDirectory (entryAt v (parentOf (entryAt v i))))
+      (λ i h z. implies (hasName (entryAt v i)) (isDirectory (entryAt v (parentOf (entryAt v i)))) (λ u. good-placed n b v g i (eqb-false i 0 z) u .parent))
 
-  -- The parents of a well-formed volume lead to 0, those of its free entries and of the root too.
+  -- The parents of a well-formed volume lead to 0, those of entries without a name and of the root too.
   good-lead : 1 ≤ n → (l : List ℕ) → ((i : ℕ) → getD l i 0 ≡ parentOf (entryAt v i)) → allLead n l ≡ true
   unfolding allLead
   good-lead k l same =
       every-intro n (climbsBy n l) (λ i h.
       climbs-by n v l same i
-      ∙ parent-cases v i (g .root) (leads-at-once n v i k)
-      (λ m z u. ap (λ (k : ℕ). climbs k v i) (sym (g .size)) ∙ good-placed i m z u .leads))
+      ∙ parent-cases v (g .root) i (leads-at-once n v i k)
+      (λ z u. ap (λ (k : ℕ). climbs k v i) (sym (g .size)) ∙ good-placed n b v g i z u .leads))
 
   -- No entry of a well-formed volume shares parent and name with one behind it.
   good-alone : allAlone v ≡ true
@@ -260,5 +241,5 @@ pub parents-below : (n b : ℕ) (s : List ℕ) → Lent n b s → Bytes s → en
     → (i : ℕ) → parentOf (entryAt (readVolume n b s) i) < n
 parents-below n b s l byte e p i =
     let v = readVolume n b s in
-    parent-cases v i (first-entry n b s l byte e .0) (λ z. omega arith)
-    (λ h z u. omega (arith, length-read n b s, directory-below v (parentOf (entryAt v i)) (parents-inv v p i h z u)))
+    parent-cases v (first-entry n b s l byte e .0) i (λ z. omega arith)
+    (λ z u. omega (arith, length-read n b s, directory-below v (parentOf (entryAt v i)) (parents-inv v p i z u)))

@@ -10,11 +10,11 @@ use lib.ListN.{length, take, drop}
 use lib.Dec.{ltb}
 use borrow.Author.Tests.{lt-ltb, le-ltb, ltb-true}
 use Rattle.buffer.specs.Patch.{Put}
-use Rattle.volume_entry.specs.Entry.{Entry, free, file, directory, kindNumber, contentsOf, usage}
+use Rattle.volume_entry.specs.Entry.{Entry, isUsed, isFile, kindNumber, contentsOf, usage}
 use Rattle.volume_tree.specs.Volume.{Volume, entryAt}
 use Rattle.volume_questions.specs.Listing.{listing}
 use Rattle.volume_questions.specs.declared.object.Object.{Object}
-use Rattle.volume_questions.specs.declared.object.Object.the-variants.{File, Directory, BadNumber, Free}
+use Rattle.volume_questions.specs.declared.object.Object.the-variants.{File, Directory, BadNumber}
 use Rattle.volume_questions.specs.declared.object.Stat.the-variants.{Is, BadNumber as StatBadNumber, NoObject as StatNoObject}
 use Rattle.volume_questions.specs.declared.reading.Copied.{Copied}
 use Rattle.volume_questions.specs.declared.reading.Copied.the-variants.{Bytes as CopiedBytes, BadRange}
@@ -22,30 +22,10 @@ use Rattle.volume_questions.specs.declared.listing.Listed.{Listed}
 use Rattle.volume_questions.specs.declared.listing.Listed.the-variants.{Bytes as ListedBytes, Short}
 use Rattle.volume_questions.specs.Answer.{objectOf, objectAnswer, statOf, statAnswer, readOf, readAnswer, readLeft, readLeaves, listOf, listAnswer, listLeft, listLeaves}
 
--- An entry with the kind's number 0 is free.
-pub free-object : (e : Entry) → kindNumber e ≡ 0 → objectOf e ≡ Free
-free-object free h = refl
-free-object (file n p c) h = absurd (omega arith)
-free-object (directory n p) h = absurd (omega arith)
-
--- An entry with the kind's number 1 is a file.
-pub file-object : (e : Entry) → kindNumber e ≡ 1 → objectOf e ≡ File
-file-object free h = absurd (omega arith)
-file-object (file n p c) h = refl
-file-object (directory n p) h = absurd (omega arith)
-
--- An entry with any other is a directory.
-pub directory-object : (e : Entry) → (kindNumber e ≡ 0 → ⊥) → (kindNumber e ≡ 1 → ⊥) → objectOf e ≡ Directory
-directory-object free h k = absurd (h refl)
-directory-object (file n p c) h k = absurd (k refl)
-directory-object (directory n p) h k = refl
-
--- What stat tells of an entry that is used.
-used-stat : (e : Entry) → (kindNumber e ≡ 0 → ⊥)
-    → statOf (objectOf e) e ≡ Is (kindNumber e) (length (contentsOf e)) (usage (length (contentsOf e)))
-used-stat free h = absurd (h refl)
-used-stat (file n p c) h = refl
-used-stat (directory n p) h = refl
+-- What stat tells of an entry that is used, be it a file or a directory.
+used-stat : (e : Entry) (file : Bool) → statOf (cond file File Directory) e ≡ Is (kindNumber e) (length (contentsOf e)) (usage (length (contentsOf e)))
+used-stat e true = refl
+used-stat e false = refl
 
 module _ (v : Volume) (o : ℕ) where
   -- A number from the volume's length on names nothing.
@@ -73,15 +53,15 @@ module _ (v : Volume) (o : ℕ) where
   stat-past h = rw (object-past h)
 
   -- Stat refuses a free entry.
-  pub stat-free : o < length v → kindNumber (entryAt v o) ≡ 0 → statAnswer v o ≡ StatNoObject
+  pub stat-free : o < length v → isUsed (entryAt v o) ≡ false → statAnswer v o ≡ StatNoObject
   unfolding statAnswer
-  stat-free h e = rw (object-in h, free-object (entryAt v o) e)
+  stat-free h u = rw (object-in h, u)
 
   -- Stat tells kind, length and usage of any other.
-  pub stat-used : o < length v → (kindNumber (entryAt v o) ≡ 0 → ⊥)
+  pub stat-used : o < length v → isUsed (entryAt v o) ≡ true
       → statAnswer v o ≡ Is (kindNumber (entryAt v o)) (length (contentsOf (entryAt v o))) (usage (length (contentsOf (entryAt v o))))
   unfolding statAnswer
-  stat-used h z = rw (object-in h) (used-stat (entryAt v o) z)
+  stat-used h u = rw (object-in h, u) (used-stat (entryAt v o) (isFile (entryAt v o)))
 
 -- Some bytes put at the start of a buffer: the place after them is their count.
 pub put-count : {s own left : List ℕ} {r : ℕ} → Put s 0 own left r → r ≡ length s

@@ -11,19 +11,19 @@ use lib.ListN.{length, getD, length-append, length-take}
 use lib.Dec.{eqb}
 use borrow.Author.Tests.{eqb-true, eqb-false}
 use Rattle.buffer.specs.Laws.Numeral.{length-bytes}
-use Rattle.volume_entry.specs.Entry.{Entry, nameOf, isUsed}
+use Rattle.volume_entry.specs.Entry.{Entry, nameOf, hasName}
 use Rattle.volume_entry.specs.Stored.{readEntry}
-use Rattle.volume_entry.specs.Laws.Field.{used-fields, unused-fields}
+use Rattle.volume_entry.specs.Laws.Field.{named-fields, unnamed-fields}
 use Rattle.volume_tree.specs.Volume.{Volume}
 use Rattle.volume_questions.specs.Listing.{listed, listing, listedAt}
 
 -- The name that an entry's bytes tell of is no longer than the byte of its length says.
 pub name-below : (s : List ℕ) → length (nameOf (readEntry s)) ≤ getD s 1 0
-name-below s = go (isUsed (readEntry s)) refl
+name-below s = go (hasName (readEntry s)) refl
   where
-    go : (t : Bool) → isUsed (readEntry s) ≡ t → length (nameOf (readEntry s)) ≤ getD s 1 0
-    go true e = rw (used-fields s e .0) (simp length-take (omega arith))
-    go false e = rw (unused-fields (readEntry s) e .0) (omega arith)
+    go : (t : Bool) → hasName (readEntry s) ≡ t → length (nameOf (readEntry s)) ≤ getD s 1 0
+    go true e = rw (named-fields s e .0) (simp length-take (omega arith))
+    go false e = rw (unnamed-fields (readEntry s) e .0) (omega arith)
 
 -- What is listed of a child has 4 bytes and its name.
 pub length-listed : (i : ℕ) (e : Entry) → length (listed i e) ≡ 4 + length (nameOf e)

@@ -10,12 +10,14 @@ use lib.Dec.{eqb}
 use borrow.Author.Tests.{eqb-true, eqb-false}
 use Rattle.names.specs.Name.{validName, sameName}
 use Rattle.names.specs.Laws.Name.{same-refl, same-sym, same-trans}
-use Rattle.volume_entry.specs.Entry.{Entry, free, file, directory, root, isUsed, isDirectory, nameOf, parentOf, contentsOf}
+use Rattle.volume_entry.specs.Entry.{Entry, root, isUsed, isDirectory, hasName, nameOf, parentOf, contentsOf}
+use Rattle.volume_entry.specs.Laws.Entry.{unused-free}
+use Rattle.volume_entry.specs.Laws.Field.{unnamed-fields}
 use Rattle.volume_tree.specs.Volume.{Volume, entryAt, isChild}
 use Rattle.volume_tree.specs.Form.{twins, wellFormed}
-use Rattle.volume_tree.specs.Laws.Form.{Placed, placed-inv, placed-intro, Good, well-formed-inv, good-well-formed}
+use Rattle.volume_tree.specs.Laws.Form.{InTree, placed-inv, placed-intro, Good, well-formed-inv, good-well-formed}
 use Rattle.volume_tree.specs.Laws.Climb.{Climb, here, step, climbs-climb, climb-climbs}
-use Rattle.volume_tree.specs.Laws.Search.{entry-set-same, entry-set-other, used-below, Named, child-intro, named-inv}
+use Rattle.volume_tree.specs.Laws.Search.{entry-set-same, entry-set-other, used-below, directory-below, named-below, Named, child-intro, named-inv}
 
 -- two numbers are equal or not
 pub same-or : {C : Type 0} (i j : ℕ) → (i ≡ j → C) → ((i ≡ j → ⊥) → C) → C
@@ -25,35 +27,23 @@ same-or {C} i j f g = go (eqb i j) refl
     go true e = f (eqb-true i j e)
     go false e = g (eqb-false i j e)
 
--- A directory is used.
-pub directory-used : (e : Entry) → isDirectory e ≡ true → isUsed e ≡ true
-directory-used free t = t
-directory-used (file n p c) t = refl
-directory-used (directory n p) t = refl
-
--- An entry that is not used is free.
-pub unused-free : (e : Entry) → isUsed e ≡ false → e ≡ free
-unused-free free t = refl
-unused-free (file n p c) t = absurd (false≢true (sym t))
-unused-free (directory n p) t = absurd (false≢true (sym t))
-
--- a well-formed volume, each rule for itself: what holds of a used entry other than the root, and of two with one name
+-- a well-formed volume, each rule for itself: what holds of an entry with a name other than the root, and of two with one name
 pub record Sound (n b : ℕ) (v : Volume) : Type 0 where
   pub size : length v ≡ n
   pub root : entryAt v 0 ≡ root
-  pub name : (i : ℕ) → (i ≡ 0 → ⊥) → isUsed (entryAt v i) ≡ true → validName (nameOf (entryAt v i)) ≡ true
-  pub parent : (i : ℕ) → (i ≡ 0 → ⊥) → isUsed (entryAt v i) ≡ true → isDirectory (entryAt v (parentOf (entryAt v i))) ≡ true
+  pub name : (i : ℕ) → (i ≡ 0 → ⊥) → hasName (entryAt v i) ≡ true → validName (nameOf (entryAt v i)) ≡ true
+  pub parent : (i : ℕ) → (i ≡ 0 → ⊥) → hasName (entryAt v i) ≡ true → isDirectory (entryAt v (parentOf (entryAt v i))) ≡ true
   pub leads : (i : ℕ) → Climb v i
   pub short : (i : ℕ) → length (contentsOf (entryAt v i)) ≤ 1024 * b
   pub one : (d : ℕ) (m : List ℕ) (i j : ℕ) → Named v d m i → Named v d m j → i ≡ j
 
--- every entry is the root, another used one, or free
-cases : {C : ℕ → Type 0} (v : Volume) → C 0 → ((i : ℕ) → (i ≡ 0 → ⊥) → isUsed (entryAt v i) ≡ true → C i) → ((i : ℕ) → entryAt v i ≡ free → C i) → (i : ℕ) → C i
-cases {C} v r u f i = same-or i 0 (λ e. subst C (sym e) r) (λ z. go z (isUsed (entryAt v i)) refl)
+-- an entry of a volume with a root has parent 0, or has a name and is not the root
+pub parent-cases : {C : Type 0} (v : Volume) → entryAt v 0 ≡ root → (i : ℕ) → (parentOf (entryAt v i) ≡ 0 → C) → ((i ≡ 0 → ⊥) → hasName (entryAt v i) ≡ true → C) → C
+parent-cases {C} v r i f g = same-or i 0 (λ e. f (ap (λ (j : ℕ). parentOf (entryAt v j)) e ∙ ap parentOf r)) (λ z. go z (hasName (entryAt v i)) refl)
   where
-    go : (i ≡ 0 → ⊥) → (b : Bool) → isUsed (entryAt v i) ≡ b → C i
-    go z true t = u i z t
-    go z false t = f i (unused-free (entryAt v i) t)
+    go : (i ≡ 0 → ⊥) → (b : Bool) → hasName (entryAt v i) ≡ b → C
+    go z true t = g z t
+    go z false t = f (unnamed-fields (entryAt v i) t .1)
 
 -- Two entries that share parent and name have that name in that directory, and the reverse.
 twins-named : (v : Volume) (i j : ℕ) → twins v i j ≡ true
@@ -71,9 +61,13 @@ named-twins : (v : Volume) (d : ℕ) (m : List ℕ) (i j : ℕ) → Named v d m 
 named-twins v d m i j x y =
     let p = parentOf (entryAt v i) in
     and-eq-true-iff (isChild v p i && isChild v p j) (sameName (nameOf (entryAt v i)) (nameOf (entryAt v j))) .1 (
-      and-eq-true-iff (isChild v p i) (isChild v p j) .1 (child-intro v p i (x .other) (x .used) refl, child-intro v p j (y .other) (y .used) (y .parent ∙ sym (x .parent))),
+      and-eq-true-iff (isChild v p i) (isChild v p j) .1 (child-intro v p i (x .other) (x .named) refl, child-intro v p j (y .other) (y .named) (y .parent ∙ sym (x .parent))),
       same-trans (nameOf (entryAt v i)) m (nameOf (entryAt v j)) (x .name) (same-sym (nameOf (entryAt v j)) m (y .name)),
     )
+
+-- Each entry with a name but the root of a well-formed volume has what is asked of it.
+pub good-placed : (n b : ℕ) (v : Volume) → Good n b v → (i : ℕ) → (i ≡ 0 → ⊥) → hasName (entryAt v i) ≡ true → InTree v i (entryAt v i)
+good-placed n b v g i z u = placed-inv b v i (entryAt v i) (g .each i (named-below v i u) z) .1 u
 
 -- A well-formed volume keeps each rule.
 pub good-sound : (n b : ℕ) (v : Volume) → Good n b v → Sound n b v
@@ -81,25 +75,21 @@ good-sound n b v g =
     record {
       size = g .size;
       root = g .root;
-      name = λ i z u. at i z u .name;
-      parent = λ i z u. at i z u .parent;
-      leads = cases v (here 0 refl) (λ i z u. climbs-climb (length v) v i (at i z u .leads)) (λ i e. step i (here _ (ap parentOf e)));
-      short = cases v (rw (g .root) (omega arith)) (λ i z u. at i z u .fits) (λ i e. rw e (omega arith));
-      one = λ d m i j x y. same-or i j (λ e. e) (λ z. absurd (false≢true (sym (g .apart i j (used-below v i (x .used)) (used-below v j (y .used)) z) ∙ named-twins v d m i j x y)));
+      name = λ i z u. good-placed n b v g i z u .name;
+      parent = λ i z u. good-placed n b v g i z u .parent;
+      leads = λ i. parent-cases v (g .root) i (λ p. step i (here _ p)) (λ z u. climbs-climb (length v) v i (good-placed n b v g i z u .leads));
+      short = λ i. same-or i 0 (λ e. rw (e, g .root) (omega arith)) (λ z. go i z (isUsed (entryAt v i)) refl);
+      one = λ d m i j x y. same-or i j (λ e. e) (λ z. absurd (false≢true (sym (g .apart i j (named-below v i (x .named)) (named-below v j (y .named)) z) ∙ named-twins v d m i j x y)));
     }
   where
-    at : (i : ℕ) → (i ≡ 0 → ⊥) → isUsed (entryAt v i) ≡ true → Placed b v i (entryAt v i)
-    at i z u = placed-inv b v i (entryAt v i) u (g .each i (used-below v i u) z)
+    go : (i : ℕ) → (i ≡ 0 → ⊥) → (t : Bool) → isUsed (entryAt v i) ≡ t → length (contentsOf (entryAt v i)) ≤ 1024 * b
+    go i z true u = placed-inv b v i (entryAt v i) (g .each i (used-below v i u) z) .0
+    go i z false u = rw (unused-free (entryAt v i) u) (omega arith)
 
 -- every entry's parent is an entry
 pub parent-below : (n b : ℕ) (v : Volume) → Sound n b v → (i : ℕ) → parentOf (entryAt v i) < length v
-parent-below n b v s =
-    cases v (rw (s .root) first)
-    (λ i z u. used-below v (parentOf (entryAt v i)) (directory-used (entryAt v (parentOf (entryAt v i))) (s .parent i z u)))
-    (λ i e. rw e first)
-  where
-    first : 0 < length v
-    first = used-below v 0 (ap isUsed (s .root))
+parent-below n b v s i =
+    parent-cases v (s .root) i (λ p. rw p (directory-below v 0 (ap isDirectory (s .root)))) (λ z u. directory-below v (parentOf (entryAt v i)) (s .parent i z u))
 
 -- A volume that keeps each rule is well-formed.
 pub sound-good : (n b : ℕ) (v : Volume) → Sound n b v → Good n b v
@@ -108,8 +98,8 @@ sound-good n b v s =
       size = s .size;
       root = s .root;
       each = λ i h z.
-          placed-intro b v i (entryAt v i) (λ u.
-          record { name = s .name i z u; parent = s .parent i z u; leads = climb-climbs v (parent-below n b v s) i h (s .leads i); fits = s .short i });
+          placed-intro b v i (entryAt v i) (s .short i) (λ u.
+          record { name = s .name i z u; parent = s .parent i z u; leads = climb-climbs v (parent-below n b v s) i h (s .leads i) });
       apart = λ i j h k z. go i j z (twins v i j) refl;
     }
   where
@@ -124,18 +114,16 @@ well-formed-sound n b v t = good-sound n b v (well-formed-inv n b v t)
 pub sound-well-formed : (n b : ℕ) (v : Volume) → Sound n b v → wellFormed n b v ≡ true
 sound-well-formed n b v s = good-well-formed n b v (sound-good n b v s)
 
--- An entry that has a parent other than the root is used, and not the root.
-pub child-used : (n b : ℕ) (v : Volume) → Sound n b v → (o : ℕ) → (o ≡ 0 → ⊥) → (i : ℕ) → parentOf (entryAt v i) ≡ o
-    → (i ≡ 0 → ⊥) × (isUsed (entryAt v i) ≡ true)
-child-used n b v s o z =
-    cases {C = λ i. parentOf (entryAt v i) ≡ o → (i ≡ 0 → ⊥) × (isUsed (entryAt v i) ≡ true)} v
-    (λ p. absurd (z (sym p ∙ ap parentOf (s .root)))) (λ i y u p. (y, u)) (λ i e p. absurd (z (sym p ∙ ap parentOf e)))
+-- An entry that has a parent other than the root has a name, and is not the root.
+pub child-named : (n b : ℕ) (v : Volume) → Sound n b v → (o : ℕ) → (o ≡ 0 → ⊥) → (i : ℕ) → parentOf (entryAt v i) ≡ o
+    → (i ≡ 0 → ⊥) × (hasName (entryAt v i) ≡ true)
+child-named n b v s o z i p = parent-cases v (s .root) i (λ q. absurd (z (sym p ∙ q))) (λ y u. (y, u))
 
 -- An entry that is no directory is nobody's parent.
 pub no-directory : (n b : ℕ) (v : Volume) → Sound n b v → (o : ℕ) → (o ≡ 0 → ⊥) → isDirectory (entryAt v o) ≡ false
     → (i : ℕ) → parentOf (entryAt v i) ≡ o → ⊥
 no-directory n b v s o z f i p =
-    let c = child-used n b v s o z i p in
+    let c = child-named n b v s o z i p in
     false≢true (sym f ∙ ap (λ (j : ℕ). isDirectory (entryAt v j)) (sym p) ∙ s .parent i (c .0) (c .1))
 
 -- No path is changed by an entry that is nobody's parent and not its own, nor by a directory that stays in its parent.
@@ -145,10 +133,10 @@ pub data Keeps (v : Volume) (o : ℕ) (e : Entry) : Type 0 where
 
 -- what an entry must be to be put at a number: its name, parent and length in order, and no other entry so named
 pub record Placeable (b : ℕ) (v : Volume) (o : ℕ) (e : Entry) : Type 0 where
-  pub name : isUsed e ≡ true → validName (nameOf e) ≡ true
-  pub parent : isUsed e ≡ true → isDirectory (entryAt v (parentOf e)) ≡ true
+  pub name : hasName e ≡ true → validName (nameOf e) ≡ true
+  pub parent : hasName e ≡ true → isDirectory (entryAt v (parentOf e)) ≡ true
   pub short : length (contentsOf e) ≤ 1024 * b
-  pub alone : isUsed e ≡ true → (i : ℕ) → Named v (parentOf e) (nameOf e) i → i ≡ o
+  pub alone : hasName e ≡ true → (i : ℕ) → Named v (parentOf e) (nameOf e) i → i ≡ o
   pub keeps : Keeps v o e
 
 module _ (v : Volume) (o : ℕ) (e : Entry) (inside : o < length v) where
@@ -185,7 +173,7 @@ module _ (v : Volume) (o : ℕ) (e : Entry) (inside : o < length v) where
   pub named-before : (d : ℕ) (m : List ℕ) (i : ℕ) → (i ≡ o → ⊥) → Named (set v o e) d m i → Named v d m i
   named-before d m i z x =
       let q = entry-set-other v o e i z in
-      record { other = x .other; used = sym (ap isUsed q) ∙ x .used; parent = sym (ap parentOf q) ∙ x .parent; name = ap (λ (y : Entry). sameName (nameOf y) m) (sym q) ∙ x .name }
+      record { other = x .other; named = sym (ap hasName q) ∙ x .named; parent = sym (ap parentOf q) ∙ x .parent; name = ap (λ (y : Entry). sameName (nameOf y) m) (sym q) ∙ x .name }
 
   -- A change at one entry of a well-formed volume leaves it well-formed, if the new entry fits.
   pub set-sound : (n b : ℕ) → Sound n b v → (o ≡ 0 → ⊥) → Placeable b v o e → Sound n b (set v o e)
@@ -193,8 +181,8 @@ module _ (v : Volume) (o : ℕ) (e : Entry) (inside : o < length v) where
       record {
         size = length-set v o e ∙ s .size;
         root = entry-set-other v o e 0 (λ q. z (sym q)) ∙ s .root;
-        name = after-set (λ i x. (i ≡ 0 → ⊥) → isUsed x ≡ true → validName (nameOf x) ≡ true) (λ y u. f .name u) (λ i y. s .name i);
-        parent = after-set (λ i x. (i ≡ 0 → ⊥) → isUsed x ≡ true → isDirectory (entryAt (set v o e) (parentOf x)) ≡ true)
+        name = after-set (λ i x. (i ≡ 0 → ⊥) → hasName x ≡ true → validName (nameOf x) ≡ true) (λ y u. f .name u) (λ i y. s .name i);
+        parent = after-set (λ i x. (i ≡ 0 → ⊥) → hasName x ≡ true → isDirectory (entryAt (set v o e) (parentOf x)) ≡ true)
             (λ y u. directory-after (parentOf e) (f .parent u) (own (f .keeps)))
             (λ i y w u. directory-after (parentOf (entryAt v i)) (s .parent i w u) (others (f .keeps) i));
         leads = climb-after (f .keeps) (s .leads);
@@ -215,5 +203,5 @@ module _ (v : Volume) (o : ℕ) (e : Entry) (inside : o < length v) where
       only : (d : ℕ) (m : List ℕ) → Named (set v o e) d m o → (i : ℕ) → Named v d m i → i ≡ o
       only d m x i y =
           let q = entry-set-same v o e inside in
-          f .alone (sym (ap isUsed q) ∙ x .used) i
-          (record { other = y .other; used = y .used; parent = y .parent ∙ sym (x .parent) ∙ ap parentOf q; name = same-trans (nameOf (entryAt v i)) m (nameOf e) (y .name) (same-sym (nameOf e) m (ap (λ (y : Entry). sameName (nameOf y) m) (sym q) ∙ x .name)) })
+          f .alone (sym (ap hasName q) ∙ x .named) i
+          (record { other = y .other; named = y .named; parent = y .parent ∙ sym (x .parent) ∙ ap parentOf q; name = same-trans (nameOf (entryAt v i)) m (nameOf e) (y .name) (same-sym (nameOf e) m (ap (λ (y : Entry). sameName (nameOf y) m) (sym q) ∙ x .name)) })

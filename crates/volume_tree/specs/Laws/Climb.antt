@@ -12,12 +12,7 @@ use Rattle.buffer.specs.Laws.Test.{either, or-left, or-right, or-other}
 use Rattle.volume_entry.specs.Entry.{parentOf}
 use Rattle.volume_tree.specs.Volume.{Volume, entryAt, every}
 use Rattle.volume_tree.specs.Form.{climbs}
-use Rattle.volume_tree.specs.Laws.Form.{every-inv, every-intro}
-
--- a test that passes wherever another does
-pub implies : (a b : Bool) → (a ≡ true → b ≡ true) → not a || b ≡ true
-implies true b h = h refl
-implies false b h = refl
+use Rattle.volume_tree.specs.Laws.Form.{implies, every-inv, every-intro}
 
 neither : (a b : Bool) → not a || b ≡ false → (a ≡ true) × (b ≡ false)
 neither true b e = (refl, e)

@@ -12,11 +12,16 @@ use lib.Dec.{leb, eqb}
 use borrow.Author.Tests.{le-leb, leb-true, eq-eqb, ne-eqb, eqb-true, eqb-false, not-true}
 use Rattle.buffer.specs.Laws.Test.{or-other}
 use Rattle.names.specs.Name.{permittedByte, allPermitted, isDots, goodText, validName, lowerCase, sameName}
-use Rattle.volume_entry.specs.Entry.{Entry, free, file, directory, root, isUsed, isDirectory, nameOf, parentOf, contentsOf}
+use Rattle.volume_entry.specs.Entry.{Entry, file, directory, root, isDirectory, hasName, nameOf, parentOf, contentsOf}
 use Rattle.volume_entry.specs.Stored.{sameBytes}
 use Rattle.volume_entry.specs.Laws.Entry.{same-entry, entry-same}
 use Rattle.volume_tree.specs.Volume.{Volume, entryAt, every, lowest}
-use Rattle.volume_tree.specs.Form.{climbs, isRoot, placed, twins, apart, wellFormed}
+use Rattle.volume_tree.specs.Form.{climbs, isRoot, inTree, placed, twins, apart, wellFormed}
+
+-- a test that passes wherever another does
+pub implies : (a b : Bool) → (a ≡ true → b ≡ true) → not a || b ≡ true
+implies true b h = h refl
+implies false b h = refl
 
 -- What a test says of each number below a bound and of the bound, it says of each below the next bound.
 pub up-to : (k : ℕ) (f : ℕ → Bool) (b : Bool) → ((i : ℕ) → i < k → f i ≡ b) → f k ≡ b → (i : ℕ) → i < suc k → f i ≡ b
@@ -113,36 +118,31 @@ some-lowest (suc k) f i h t l = go (eqb i k) refl (λ m. some-lowest k f i m t l
 pub root-is : (e : Entry) → isRoot e ≡ true → e ≡ root
 root-is e t = same-entry e root t
 
--- What is asked of a used entry other than the root: a valid name, a used directory as parent, parents that lead to 0, and
--- a length that fits.
-pub record Placed (b : ℕ) (v : Volume) (i : ℕ) (e : Entry) : Type 0 where
+-- What is asked of an entry with a name, other than the root: a valid name, a used directory as parent, parents that lead to 0.
+pub record InTree (v : Volume) (i : ℕ) (e : Entry) : Type 0 where
   pub name : validName (nameOf e) ≡ true
   pub parent : isDirectory (entryAt v (parentOf e)) ≡ true
   pub leads : climbs (length v) v i ≡ true
-  pub fits : length (contentsOf e) ≤ 1024 * b
 
--- A used entry that passes the test of its place has what is asked of it.
-pub placed-inv : (b : ℕ) (v : Volume) (i : ℕ) (e : Entry) → isUsed e ≡ true → placed b v i e ≡ true → Placed b v i e
+-- An entry that passes the test of its place has a length that fits and, with a name, what is asked of it.
+pub placed-inv : (b : ℕ) (v : Volume) (i : ℕ) (e : Entry) → placed b v i e ≡ true → (length (contentsOf e) ≤ 1024 * b) × (hasName e ≡ true → InTree v i e)
 unfolding placed
-placed-inv b v i free u t = absurd (false≢true u)
-placed-inv b v i (file n p c) u t =
-    let a = and-eq-true-iff (validName n) (isDirectory (entryAt v p) && (climbs (length v) v i && leb (length c) (1024 * b))) .0 t in
-    let d = and-eq-true-iff (isDirectory (entryAt v p)) (climbs (length v) v i && leb (length c) (1024 * b)) .0 (a .1) in
-    let g = and-eq-true-iff (climbs (length v) v i) (leb (length c) (1024 * b)) .0 (d .1) in
-    record { name = a .0; parent = d .0; leads = g .0; fits = leb-true (length c) (1024 * b) (g .1) }
-placed-inv b v i (directory n p) u t =
-    let a = and-eq-true-iff (validName n) (isDirectory (entryAt v p) && climbs (length v) v i) .0 t in
-    let d = and-eq-true-iff (isDirectory (entryAt v p)) (climbs (length v) v i) .0 (a .1) in
-    record { name = a .0; parent = d .0; leads = d .1; fits = omega arith }
+placed-inv b v i e t = (leb-true (length (contentsOf e)) (1024 * b) (a .0), named)
+  where
+    a : (leb (length (contentsOf e)) (1024 * b) ≡ true) × (not (hasName e) || inTree v i e ≡ true)
+    a = and-eq-true-iff (leb (length (contentsOf e)) (1024 * b)) (not (hasName e) || inTree v i e) .0 t
 
--- An entry that has what is asked of it, if it is used, passes the test of its place.
-pub placed-intro : (b : ℕ) (v : Volume) (i : ℕ) (e : Entry) → (isUsed e ≡ true → Placed b v i e) → placed b v i e ≡ true
+    named : hasName e ≡ true → InTree v i e
+    named u =
+        let c = and-eq-true-iff (validName (nameOf e)) (isDirectory (entryAt v (parentOf e)) && climbs (length v) v i) .0 (or-other (not (hasName e)) (inTree v i e) (ap not u) (a .1)) in
+        let d = and-eq-true-iff (isDirectory (entryAt v (parentOf e))) (climbs (length v) v i) .0 (c .1) in
+        record { name = c .0; parent = d .0; leads = d .1 }
+
+-- An entry that has these passes the test of its place.
+pub placed-intro : (b : ℕ) (v : Volume) (i : ℕ) (e : Entry) → length (contentsOf e) ≤ 1024 * b → (hasName e ≡ true → InTree v i e) → placed b v i e ≡ true
 unfolding placed
-placed-intro b v i free h = refl
-placed-intro b v i (file n p c) h =
-    let t = h refl in
-    rw (t .name, t .parent, t .leads, le-leb (length c) (1024 * b) (t .fits))
-placed-intro b v i (directory n p) h = let t = h refl in rw (t .name, t .parent, t .leads)
+placed-intro b v i e h f =
+    rw (le-leb (length (contentsOf e)) (1024 * b) h) (implies (hasName e) (inTree v i e) (λ u. let t = f u in rw (t .name, t .parent, t .leads)))
 
 -- A well-formed volume: n entries, the root first, each other entry in its place, and no two of one parent and name.
 pub record Good (n b : ℕ) (v : Volume) : Type 0 where

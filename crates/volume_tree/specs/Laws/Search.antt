@@ -10,10 +10,10 @@ use lib.ListN.{length, set, length-set, List·getD-eq-default}
 use lib.Seq.{getD-set-same, getD-set-other}
 use lib.Dec.{ltb, eqb}
 use borrow.Author.Tests.{ltb-true, ltb-false, eq-eqb, ne-eqb, eqb-true, eqb-false, not-true}
-use Rattle.volume_entry.specs.Laws.Entry.{file-used}
+use Rattle.volume_entry.specs.Laws.Entry.{file-used, directory-used, named-used}
 use Rattle.names.specs.Name.{sameName}
 use Rattle.names.specs.Laws.Name.{same-either}
-use Rattle.volume_entry.specs.Entry.{Entry, free, isUsed, nameOf, parentOf, isFile}
+use Rattle.volume_entry.specs.Entry.{Entry, free, isUsed, isFile, isDirectory, hasName, nameOf, parentOf}
 use Rattle.volume_tree.specs.Volume.{Volume, entryAt, every, lowest, isChild, isNamed, search, hasChildren}
 use Rattle.volume_tree.specs.Laws.Form.{every-inv, every-intro, every-not, lowest-none, lowest-some, none-lowest, some-lowest}
 
@@ -37,26 +37,34 @@ used-below v i u = go (ltb i (length v)) refl
 pub file-below : (v : Volume) (o : ℕ) → isFile (entryAt v o) ≡ true → o < length v
 file-below v o t = used-below v o (file-used (entryAt v o) t)
 
+-- a directory is no entry past the end
+pub directory-below : (v : Volume) (o : ℕ) → isDirectory (entryAt v o) ≡ true → o < length v
+directory-below v o t = used-below v o (directory-used (entryAt v o) t)
+
+-- what has a name is no entry past the end
+pub named-below : (v : Volume) (i : ℕ) → hasName (entryAt v i) ≡ true → i < length v
+named-below v i t = used-below v i (named-used (entryAt v i) t)
+
 -- an entry has a name in a directory, with no test in it
 pub record Named (v : Volume) (d : ℕ) (n : List ℕ) (i : ℕ) : Type 0 where
   pub other : i ≡ 0 → ⊥
-  pub used : isUsed (entryAt v i) ≡ true
+  pub named : hasName (entryAt v i) ≡ true
   pub parent : parentOf (entryAt v i) ≡ d
   pub name : sameName (nameOf (entryAt v i)) n ≡ true
 
--- a used entry other than the root is a child of its parent
-pub child-intro : (v : Volume) (d i : ℕ) → (i ≡ 0 → ⊥) → isUsed (entryAt v i) ≡ true → parentOf (entryAt v i) ≡ d → isChild v d i ≡ true
+-- an entry with a name, other than the root, is a child of its parent
+pub child-intro : (v : Volume) (d i : ℕ) → (i ≡ 0 → ⊥) → hasName (entryAt v i) ≡ true → parentOf (entryAt v i) ≡ d → isChild v d i ≡ true
 child-intro v d i z u p = rw (ne-eqb i 0 z, u, eq-eqb (parentOf (entryAt v i)) d p)
 
 -- the test of a name in a directory says that the entry has it
 pub named-inv : (v : Volume) (d : ℕ) (n : List ℕ) (i : ℕ) → isNamed v d n i ≡ true → Named v d n i
 named-inv v d n i t =
     let a = and-eq-true-iff (isChild v d i) (sameName (nameOf (entryAt v i)) n) .0 t in
-    let c = and-eq-true-iff (not (eqb i 0)) (isUsed (entryAt v i) && eqb (parentOf (entryAt v i)) d) .0 (a .0) in
-    let u = and-eq-true-iff (isUsed (entryAt v i)) (eqb (parentOf (entryAt v i)) d) .0 (c .1) in
+    let c = and-eq-true-iff (not (eqb i 0)) (hasName (entryAt v i) && eqb (parentOf (entryAt v i)) d) .0 (a .0) in
+    let u = and-eq-true-iff (hasName (entryAt v i)) (eqb (parentOf (entryAt v i)) d) .0 (c .1) in
     record {
       other = eqb-false i 0 (not-true (eqb i 0) (c .0));
-      used = u .0;
+      named = u .0;
       parent = eqb-true (parentOf (entryAt v i)) d (u .1);
       name = a .1;
     }
@@ -65,7 +73,7 @@ named-inv v d n i t =
 pub named-intro : (v : Volume) (d : ℕ) (n : List ℕ) (i : ℕ) → Named v d n i → isNamed v d n i ≡ true
 named-intro v d n i h =
     and-eq-true-iff (isChild v d i) (sameName (nameOf (entryAt v i)) n) .1
-    (child-intro v d i (h .other) (h .used) (h .parent), h .name)
+    (child-intro v d i (h .other) (h .named) (h .parent), h .name)
 
 -- what is found has the name in the directory
 pub search-found : (v : Volume) (d : ℕ) (n : List ℕ) (i : ℕ) → search v d n ≡ some i → (isNamed v d n i ≡ true) × (i < length v)

@@ -4,24 +4,26 @@
 use Prim.Native.Nat.{ℕ, zero, suc, _+_, _*_, _^_, _≤_, _<_, suc-le-suc}
 use native.Mathlib.Nat.{zero-mul, suc-mul}
 use native.Mathlib.Omega.{arith}
-use mathlib.Core.Path.{_≡_, refl, sym, ap, ap₂, _∙_, subst}
+use mathlib.Core.Path.{_≡_, refl, sym, ap, ap₂, _∙_}
 use mathlib.Core.Bool.{Bool, true, false, not, _&&_, cond, and-false, false≢true}
 use mathlib.Core.List.{List, [], _∷_, _++_}
 use mathlib.Core.Option.{none, some, Option·some-injective}
 use lib.ListN.{length, getD, set, replicate, length-append, length-replicate, getD-replicate, replicate-append-replicate, List·getD-eq-default}
 use lib.Seq.{take-at, drop-at}
 use lib.Dec.{ltb, eqb}
-use borrow.Author.Tests.{eqb-true, eqb-false, ltb-true, ltb-false}
+use borrow.Author.Tests.{ltb-true, ltb-false}
 use Rattle.names.specs.Name.{sameName}
 use Rattle.buffer.specs.Numeral.{bytes}
 use Rattle.names.specs.Laws.Name.{valid-length}
-use Rattle.volume_entry.specs.Entry.{Entry, free, file, directory, root, isUsed, isDirectory, nameOf, parentOf, contentsOf}
+use Rattle.volume_entry.specs.Entry.{Entry, free, root, hasName, nameOf, parentOf, contentsOf}
 use Rattle.volume_tree.specs.Volume.{Volume, entryAt, isChild, formatted}
 use Rattle.volume_tree.specs.Form.{placed, wellFormed}
-use Rattle.volume_tree.specs.Laws.Form.{Good, placed-inv, well-formed-inv, good-well-formed}
+use Rattle.volume_tree.specs.Laws.Form.{placed-intro, Good, well-formed-inv, good-well-formed}
+use Rattle.volume_tree.specs.Laws.Change.{same-or, Sound, good-sound, parent-below}
 use Rattle.volume_entry.specs.Stored.{entryBytes, encodeEntry, sameBytes, readEntry}
 use Rattle.volume_tree.specs.Stored.{volumeBytes, encodeVolume, readVolume, decodeVolume}
 use Rattle.volume_entry.specs.Laws.Entry.{same-bytes, bytes-same, length-entry, free-zero, read-entry}
+use Rattle.volume_entry.specs.Laws.Field.{unnamed-fields}
 
 -- The limits within which an entry's name and contents fit their fields.
 pub record Sized (b : ℕ) (e : Entry) : Type 0 where
@@ -53,51 +55,16 @@ read-volume b (e ∷ v) h p m =
     (ap readEntry one ∙ read-entry b e (s .name) (p 0 (omega arith)) (s .contents) m)
     (ap (readVolume (length v) b) rest ∙ read-volume b v (λ i k. h (suc i) (suc-le-suc k)) (λ i k. p (suc i) (suc-le-suc k)) m)
 
--- A directory's number lies in the volume.
-pub directory-below : (v : Volume) (i : ℕ) → isDirectory (entryAt v i) ≡ true → i < length v
-directory-below v i d = go (ltb i (length v)) refl
-  where
-    go : (t : Bool) → ltb i (length v) ≡ t → i < length v
-    go true e = ltb-true i (length v) e
-    go false e =
-        let x : entryAt v i ≡ free = List·getD-eq-default v free (ltb-false i (length v) e) in
-        absurd (false≢true (sym (ap isDirectory x) ∙ d))
-
--- The limits of an entry that is free, or has what is asked of a used one.
-placed-sized : (b : ℕ) (v : Volume) (i : ℕ) (e : Entry) → placed b v i e ≡ true → Sized b e
-placed-sized b v i free t = record { name = omega arith; contents = omega arith }
-placed-sized b v i (file n p c) t =
-    let x = placed-inv b v i (file n p c) refl t in
-    record { name = valid-length n (x .name) .1; contents = x .fits }
-placed-sized b v i (directory n p) t =
-    let x = placed-inv b v i (directory n p) refl t in
-    record { name = valid-length n (x .name) .1; contents = x .fits }
-
--- The parent of an entry that is free, or has what is asked of a used one.
-placed-parent : (b : ℕ) (v : Volume) (i : ℕ) (e : Entry) → 1 ≤ length v → placed b v i e ≡ true → parentOf e < length v
-placed-parent b v i free l t = omega arith
-placed-parent b v i (file n p c) l t = directory-below v p (placed-inv b v i (file n p c) refl t .parent)
-placed-parent b v i (directory n p) l t = directory-below v p (placed-inv b v i (directory n p) refl t .parent)
-
 -- Each entry of a well-formed volume is within its limits.
 pub good-sized : (n b : ℕ) (v : Volume) → Good n b v → (i : ℕ) → i < length v → Sized b (entryAt v i)
-good-sized n b v g i h = go (eqb i 0) refl
+good-sized n b v g i h = record { name = same-or i 0 (λ e. rw (e, g .root) (omega arith)) (λ z. go z (hasName (entryAt v i)) refl); contents = s .short i }
   where
-    go : (t : Bool) → eqb i 0 ≡ t → Sized b (entryAt v i)
-    go true e =
-        let x : entryAt v i ≡ root = ap (entryAt v) (eqb-true i 0 e) ∙ g .root in
-        subst (Sized b) (sym x) (record { name = omega arith; contents = omega arith })
-    go false e = placed-sized b v i (entryAt v i) (g .each i h (eqb-false i 0 e))
+    s : Sound n b v
+    s = good-sound n b v g
 
--- Each parent in a well-formed volume is the number of one of its entries.
-pub good-parent : (n b : ℕ) (v : Volume) → Good n b v → (i : ℕ) → i < length v → parentOf (entryAt v i) < length v
-good-parent n b v g i h = go (eqb i 0) refl
-  where
-    go : (t : Bool) → eqb i 0 ≡ t → parentOf (entryAt v i) < length v
-    go true e =
-        let x : parentOf (entryAt v i) ≡ 0 = ap parentOf (ap (entryAt v) (eqb-true i 0 e) ∙ g .root) in
-        omega arith
-    go false e = placed-parent b v i (entryAt v i) (omega arith) (g .each i h (eqb-false i 0 e))
+    go : (i ≡ 0 → ⊥) → (t : Bool) → hasName (entryAt v i) ≡ t → length (nameOf (entryAt v i)) ≤ 60
+    go z true u = valid-length (nameOf (entryAt v i)) (s .name i z u) .1
+    go z false u = rw (unnamed-fields (entryAt v i) u .0) (omega arith)
 
 -- A well-formed volume has n entries' bytes.
 pub length-good : (n b : ℕ) (v : Volume) → wellFormed n b v ≡ true → length (encodeVolume b v) ≡ volumeBytes n b
@@ -111,7 +78,7 @@ read-good n b v h k w =
     let g = well-formed-inv n b v w in
     let size = g .size in
     ap (λ (j : ℕ). readVolume j b (encodeVolume b v)) (sym size)
-    ∙ read-volume b v (good-sized n b v g) (λ i l. let p = good-parent n b v g i l in omega arith) (omega arith)
+    ∙ read-volume b v (good-sized n b v g) (λ i l. let p = parent-below n b v (good-sound n b v g) i in omega arith) (omega arith)
 
 -- The bytes of a well-formed volume are of the right form, and tell of that volume.
 pub decode-encode : (n b : ℕ) (v : Volume) → n ≤ 256 → b ≤ 64 → wellFormed n b v ≡ true → decodeVolume n b (encodeVolume b v) ≡ some v
@@ -175,18 +142,17 @@ formatted-childless : (n d i : ℕ) → isChild (formatted n) d i ≡ false
 formatted-childless n d zero = refl
 formatted-childless n d (suc i) =
     let x : entryAt (formatted n) (suc i) ≡ free = formatted-free n (suc i) (λ z. omega arith) in
-    ap (λ (e : Entry). not (eqb (suc i) 0) && (isUsed e && eqb (parentOf e) d)) x ∙ and-false (not (eqb (suc i) 0))
+    ap (λ (e : Entry). not (eqb (suc i) 0) && (hasName e && eqb (parentOf e) d)) x ∙ and-false (not (eqb (suc i) 0))
 
 -- "Format makes a server volume with only a root", which is well-formed.
 pub formatted-good : (n b : ℕ) → 2 ≤ n → wellFormed n b (formatted n) ≡ true
-unfolding placed
 formatted-good n b h =
     let v = formatted n in
     good-well-formed n b v
     (record {
       size = length-formatted n;
       root = formatted-root n (omega arith);
-      each = λ i l z. ap (placed b v i) (formatted-free n i z);
+      each = λ i l z. ap (placed b v i) (formatted-free n i z) ∙ placed-intro b v i free (omega arith) (λ u. absurd (false≢true u));
       apart = λ i j l k z.
           ap (λ (t : Bool). (t && isChild v (parentOf (entryAt v i)) j) && sameName (nameOf (entryAt v i)) (nameOf (entryAt v j)))
           (formatted-childless n (parentOf (entryAt v i)) i);

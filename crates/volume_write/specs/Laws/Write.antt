@@ -1,18 +1,19 @@
 -- What a change of some bytes of one entry leaves of a volume of the right form.
 -- Assumes nothing.
-use Prim.Native.Nat.{ℕ, zero, suc, _+_, _*_, _≤_, _<_, _-_}
+use Prim.Native.Nat.{ℕ, zero, _+_, _*_, _≤_, _<_, _-_}
 use native.Mathlib.Nat.{zero-add, add-zero}
 use native.Mathlib.Omega.{arith}
-use mathlib.Core.Path.{_≡_, refl, sym, ap, ap₂, _∙_}
-use mathlib.Core.Bool.{true, false≢true}
+use mathlib.Core.Path.{_≡_, sym, ap, ap₂, _∙_}
+use mathlib.Core.Bool.{true}
 use mathlib.Core.List.{List, [], _++_, append-assoc, append-nil}
 use lib.ListN.{length, set, take, drop, replicate, length-append, length-take, length-drop, length-replicate, drop-of-length-le}
 use lib.Seq.{take-at, drop-at, drop-drop, length-take-le, take-append-seam}
 use Rattle.buffer.specs.Patch.{patch}
 use Rattle.buffer.specs.Numeral.{bytes}
 use Rattle.buffer.specs.Laws.Numeral.{length-bytes}
-use Rattle.volume_entry.specs.Entry.{Entry, free, file, directory, isUsed, isFile, kindNumber, nameOf, parentOf, contentsOf, renamed, refilled}
-use Rattle.volume_entry.specs.Laws.Entry.{renamed-contents}
+use Rattle.volume_entry.specs.Entry.{Entry, free, isFile, hasName, kindNumber, nameOf, parentOf, contentsOf, renamed, refilled}
+use Rattle.volume_entry.specs.Laws.Entry.{renamed-name, renamed-parent, renamed-kind, renamed-contents, refilled-name, refilled-contents}
+use Rattle.volume_entry.specs.Laws.Field.{new-fields}
 use Rattle.volume_entry.specs.Stored.{entryBytes, encodeEntry, entryOf}
 use Rattle.volume_entry.specs.Write.{headField, resized}
 use Rattle.volume_entry.specs.Laws.Write.{resized-length, patch-inside, length-patch, length-head, head-written, overwritten, appended, shortened, lengthened, cleared}
@@ -77,37 +78,14 @@ lent-cleared s a e x h l q =
     let z : x ≡ replicate (e - a) 0 = q ∙ ap (λ (j : ℕ). replicate j 0) k in
     lent-part s a e x (ap length z ∙ length-replicate (e - a) 0) ∙ ap (patch s a) z
 
--- The head of a new entry tells of it.
-new-head : (kind parent : ℕ) (name : List ℕ) → 1 ≤ kind → kind ≤ 2
-    → headField kind parent name ≡ headField (kindNumber (entryOf kind name parent [])) (parentOf (entryOf kind name parent [])) (nameOf (entryOf kind name parent []))
-new-head zero parent name h k = absurd (omega arith)
-new-head (suc zero) parent name h k = refl
-new-head (suc (suc zero)) parent name h k = refl
-new-head (suc (suc (suc j))) parent name h k = absurd (omega arith)
-
--- A new entry is empty, and within its limits if its name is.
-new-sized : (b kind parent : ℕ) (name : List ℕ) → length name ≤ 60 → (contentsOf (entryOf kind name parent []) ≡ []) × Sized b (entryOf kind name parent [])
-new-sized b zero parent name h = (refl, record { name = omega arith; contents = omega arith })
-new-sized b (suc zero) parent name h = (refl, record { name = h; contents = omega arith })
-new-sized b (suc (suc k)) parent name h = (refl, record { name = h; contents = omega arith })
-
--- The head of an entry under another name and parent, and its limits.
-renamed-head : (x : Entry) (name : List ℕ) (parent : ℕ) → isUsed x ≡ true
-    → headField (kindNumber x) parent name ≡ headField (kindNumber (renamed x name parent)) (parentOf (renamed x name parent)) (nameOf (renamed x name parent))
-renamed-head free name parent u = absurd (false≢true u)
-renamed-head (file n p c) name parent u = refl
-renamed-head (directory n p) name parent u = refl
-
-renamed-sized : (b : ℕ) (x : Entry) (name : List ℕ) (parent : ℕ) → length name ≤ 60 → Sized b x → Sized b (renamed x name parent)
-renamed-sized b free name parent h z = z
-renamed-sized b (file n p c) name parent h z = record { name = h; contents = z .contents }
-renamed-sized b (directory n p) name parent h z = record { name = h; contents = z .contents }
+-- A head tells of an entry that has its kind, parent and name.
+head-of : (y : Entry) {kind parent : ℕ} {name : List ℕ} → kindNumber y ≡ kind → parentOf y ≡ parent → nameOf y ≡ name
+    → headField kind parent name ≡ headField (kindNumber y) (parentOf y) (nameOf y)
+head-of y k p n = rw (k, p, n)
 
 -- A file with other contents is within its limits if they are.
-refilled-sized : (b : ℕ) (x : Entry) (c : List ℕ) → length c ≤ 1024 * b → Sized b x → Sized b (refilled x c)
-refilled-sized b free c h z = z
-refilled-sized b (file n p d) c h z = record { name = z .name; contents = h }
-refilled-sized b (directory n p) c h z = z
+refilled-sized : (b : ℕ) (x : Entry) (c : List ℕ) → isFile x ≡ true → length c ≤ 1024 * b → Sized b x → Sized b (refilled x c)
+refilled-sized b x c t h z = record { name = rw (refilled-name x c) (z .name); contents = rw (refilled-contents x c t) h }
 
 module _ (n b : ℕ) (s : List ℕ) (f : Formed n b s) where
   -- Each entry of a volume of the right form is within its limits.
@@ -177,21 +155,23 @@ module _ (n b : ℕ) (s : List ℕ) (f : Formed n b s) where
         → patch s (i * entryBytes b) (headField kind parent name) ≡ encodeVolume b (set (readVolume n b s) i (entryOf kind name parent []))
     made kind parent name e h k l =
         let y = entryOf kind name parent [] in
-        let z = new-sized b kind parent name l in
-        changed-first y (headField kind parent name) (z .1) (rw (length-head kind parent name l) (omega arith))
-        (ap (patch (encodeEntry b (entryAt (readVolume n b s) i)) 0) (new-head kind parent name h k)
-        ∙ head-written b (entryAt (readVolume n b s) i) y (formed-entry .name) (z .1 .name) (z .0 ∙ ap contentsOf (sym e)))
+        let x = new-fields kind name parent h k in
+        let z : Sized b y = record { name = rw (x .1) l; contents = rw (x .3) (omega arith) } in
+        changed-first y (headField kind parent name) z (rw (length-head kind parent name l) (omega arith))
+        (ap (patch (encodeEntry b (entryAt (readVolume n b s) i)) 0) (head-of y (x .0) (x .2) (x .1))
+        ∙ head-written b (entryAt (readVolume n b s) i) y (formed-entry .name) (z .name) (x .3 ∙ ap contentsOf (sym e)))
 
     -- A head with the entry's own kind renames it.
-    pub renamed-to : (parent : ℕ) (name : List ℕ) → isUsed (entryAt (readVolume n b s) i) ≡ true → length name ≤ 60
+    pub renamed-to : (parent : ℕ) (name : List ℕ) → hasName (entryAt (readVolume n b s) i) ≡ true → length name ≤ 60
         → patch s (i * entryBytes b) (headField (kindNumber (entryAt (readVolume n b s) i)) parent name)
         ≡ encodeVolume b (set (readVolume n b s) i (renamed (entryAt (readVolume n b s) i) name parent))
     renamed-to parent name u l =
         let x = entryAt (readVolume n b s) i in
         let y = renamed x name parent in
-        let z = renamed-sized b x name parent l formed-entry in
+        let m = renamed-name x name parent u in
+        let z : Sized b y = record { name = rw m l; contents = rw (renamed-contents x name parent) (formed-entry .contents) } in
         changed-first y (headField (kindNumber x) parent name) z (rw (length-head (kindNumber x) parent name l) (omega arith))
-        (ap (patch (encodeEntry b x) 0) (renamed-head x name parent u)
+        (ap (patch (encodeEntry b x) 0) (head-of y (renamed-kind x name parent) (renamed-parent x name parent u) m)
         ∙ head-written b x y (formed-entry .name) (z .name) (renamed-contents x name parent))
 
     -- Data written over those of a file.
@@ -204,7 +184,7 @@ module _ (n b : ℕ) (s : List ℕ) (f : Formed n b s) where
         let c = contentsOf x in
         let z = formed-entry .contents in
         changed (refilled x (patch c o u)) (68 + o) u
-        (refilled-sized b x (patch c o u) (rw (length-patch c o u l) z) formed-entry) (omega arith)
+        (refilled-sized b x (patch c o u) t (rw (length-patch c o u l) z) formed-entry) (omega arith)
         (overwritten b x o u t (formed-entry .name) z l)
 
     -- Data added at the end of a file, and its new length.
@@ -216,14 +196,14 @@ module _ (n b : ℕ) (s : List ℕ) (f : Formed n b s) where
         let x = entryAt (readVolume n b s) i in
         let c = contentsOf x in
         changed-twice (refilled x (c ++ u)) (68 + o) u 64 (bytes 4 (o + length u))
-        (refilled-sized b x (c ++ u) (rw (length-append c u, ← e) l) formed-entry) (omega arith) (rw (length-bytes 4 (o + length u)) (omega arith))
+        (refilled-sized b x (c ++ u) t (rw (length-append c u, ← e) l) formed-entry) (omega arith) (rw (length-bytes 4 (o + length u)) (omega arith))
         (appended b x o u t (formed-entry .name) e l)
 
     -- A file that is cut off or gains zeros, and its new length.
     module _ (k : ℕ) (t : isFile (entryAt (readVolume n b s) i) ≡ true) (l : k ≤ 1024 * b) where
       resized-sized : Sized b (refilled (entryAt (readVolume n b s) i) (resized (contentsOf (entryAt (readVolume n b s) i)) k))
       resized-sized =
-          refilled-sized b (entryAt (readVolume n b s) i) (resized (contentsOf (entryAt (readVolume n b s) i)) k)
+          refilled-sized b (entryAt (readVolume n b s) i) (resized (contentsOf (entryAt (readVolume n b s) i)) k) t
           (rw (resized-length (contentsOf (entryAt (readVolume n b s) i)) k) l) formed-entry
 
       pub shortened-at : k ≤ length (contentsOf (entryAt (readVolume n b s) i))

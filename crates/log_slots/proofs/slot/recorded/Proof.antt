@@ -1,12 +1,12 @@
 -- Assumes nothing.
 -- `log_slots::slot::recorded` meets its contract: the record and zeros stand behind the front of a slot.
 use mathlib.Core.Path.{ap, _∙_}
-use Prim.Native.Nat.{_-_}
 use native.Mathlib.Omega.{arith}
-use lib.Seq.{take-all}
-use lib.ListN.{length, drop, length-drop}
-use Rattle.log.specs.Stored.{recordStart}
-use Rattle.log_slots.specs.Laws.Slot.{record-held}
+use lib.ListN.{length-take, length-drop}
+use Rattle.log.specs.Stored.{recordPart}
+use Rattle.log.specs.Code.Slots.{slotsIn, slotAt}
+use Rattle.log.specs.Laws.Stored.{record-held}
+use Rattle.log_slots.specs.Laws.Slot.{record-valid}
 use borrow.Author.Needs.{needs}
 use Rattle.log_slots.proofs.slot.recorded.Statement.{statement}
 use Rattle.log_slots.proofs.slot.recorded.Tie as tie
@@ -26,9 +26,10 @@ part-result-end c = search needs
 returns : tie.Need-returns
 returns c =
     let y = c .before in
+    let a = y .before .before .args in
+    let p = y .before .before .pre in
     let e = y .slot .ensures in
-    let d = take-all (length (y .slot .result .now) - recordStart) (drop recordStart (y .slot .result .now)) (rw (length-drop) (omega arith)) in
-    (d ∙ ap (drop recordStart) (e .0) ∙ record-held _, ap length d ∙ length-drop recordStart (y .slot .result .now) ∙ omega (arith, e .1))
+    (ap recordPart (e .0) ∙ record-held (slotAt (slotsIn (a .s .now)) (a .i)) (record-valid (a .s .now) (p .0) (a .i) (p .1)), simp (length-take, length-drop) (omega (arith, e .1)))
 
 pub recorded-spec : {M : Type 1} → statement M
 recorded-spec = tie.close (tie.spec slot-requires sub-result part-result-start part-result-end returns)

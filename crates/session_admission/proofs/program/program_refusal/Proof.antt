@@ -17,14 +17,14 @@ returns : tie.Need-returns
 unfolding firstNumber
 returns c =
     let a = c .before .before .before .before .args in
-    let h : holds (readLog (a .m) (a .log .now) .marks) (a .program) ≡ true = sym (c .before .is-marked .ensures) ∙ c .if2 .taken in
+    let h : holds (readLog (a .m) (a .log .now) .head .marks) (a .program) ≡ true = sym (c .before .is-marked .ensures) ∙ c .if2 .taken in
     rw (lt-ltb (a .program) 32 (omega arith), h)
 
 returns-2 : tie.Need-returns-2
 unfolding firstNumber
 returns-2 c =
     let a = c .before .before .before .before .args in
-    let h : holds (readLog (a .m) (a .log .now) .marks) (a .program) ≡ false = sym (c .before .is-marked .ensures) ∙ c .if2 .left in
+    let h : holds (readLog (a .m) (a .log .now) .head .marks) (a .program) ≡ false = sym (c .before .is-marked .ensures) ∙ c .if2 .left in
     rw (lt-ltb (a .program) 32 (omega arith), h)
 
 returns-3 : tie.Need-returns-3

@@ -36,7 +36,7 @@ returns-2 c =
     let a = u .before .before .args in
     rw (
       le-ltb (a .m) (length (readLog (a .m) (a .log .now) .slots) + a .count) (omega (arith, u .used .ensures .1 (a .n) (a .b) (u .before .before .pre .0))),
-      lt-ltb 4294967295 (readLog (a .m) (a .log .now) .next + a .count) (omega (arith, x .next-number .ensures .0)),
+      lt-ltb 4294967295 (readLog (a .m) (a .log .now) .head .next + a .count) (omega (arith, x .next-number .ensures .0)),
     )
 
 returns-3 : tie.Need-returns-3
@@ -47,7 +47,7 @@ returns-3 c =
     let a = u .before .before .args in
     rw (
       le-ltb (a .m) (length (readLog (a .m) (a .log .now) .slots) + a .count) (omega (arith, u .used .ensures .1 (a .n) (a .b) (u .before .before .pre .0))),
-      le-ltb 4294967295 (readLog (a .m) (a .log .now) .next + a .count) (omega (arith, x .next-number .ensures .0)),
+      le-ltb 4294967295 (readLog (a .m) (a .log .now) .head .next + a .count) (omega (arith, x .next-number .ensures .0)),
     )
 
 pub room-refusal-spec : {M : Type 1} → statement M

@@ -25,7 +25,7 @@ held : (c : tie.After-issue-range) → let t = start c in let a = t .args in Adm
 unfolding rangeRecord
 held c = let t = start c in issued-admitted (t .pre .held) (t .pre .issuing) (c .issue-range .result) (c .issue-range .last .0) (c .issue-range .last .1 .0) (c .issue-range .ensures)
 
-left : (c : tie.After-issue-range) → let t = start c in let a = t .args in Issuing (geometry (a .n) (a .b) (a .m)) (modelIn (a .n) (a .b) (a .m) (t .pre .server) (c .issue-range .last .1 .0) (c .issue-range .last .0)) (a .program) (Operation.append (a .object) (a .len) (a .new .now) ∷ [])
+left : (c : tie.After-issue-range) → let t = start c in let a = t .args in Issuing (geometry (a .n) (a .b) (a .m)) (modelIn (a .n) (a .b) (a .m) (t .pre .server) (c .issue-range .last .1 .0) (c .issue-range .last .0)) (a .by .program) (Operation.append (a .object) (a .len) (a .new .now) ∷ [])
 unfolding rangeRecord
 left c = let t = start c in issued-rest (t .pre .held) (t .pre .issuing) (c .issue-range .result) (c .issue-range .last .0) (c .issue-range .last .1 .0) (c .issue-range .ensures)
 
@@ -36,7 +36,7 @@ issue-range-requires c κs =
     let a = t .args in
     let h = t .pre .held in
     let i = t .pre .issuing in
-    (h .log, (h .view, (issuing-room h i, (refl, issuing-able h i (rangeRecord Overwrite (readLog (a .m) (a .log .now) .next) (a .program) (a .object) (a .offset) (a .old .now)) refl))))
+    (h .log, (h .view, (issuing-room h i, (refl, issuing-able h i (rangeRecord Overwrite (readLog (a .m) (a .log .now) .head .next) (a .by .program) (a .object) (a .offset) (a .old .now)) refl))))
 
 issue-range-requires-2 : tie.Need-issue-range-requires-2
 unfolding rangeRecord
@@ -45,7 +45,7 @@ issue-range-requires-2 c κs =
     let a = start u .args in
     let h = held u in
     let i = left u in
-    (h .log, (h .view, (issuing-room h i, (refl, issuing-able h i (rangeRecord Append (readLog (a .m) (u .issue-range .last .0) .next) (a .program) (a .object) (a .len) (a .new .now)) refl))))
+    (h .log, (h .view, (issuing-room h i, (refl, issuing-able h i (rangeRecord Append (readLog (a .m) (u .issue-range .last .0) .head .next) (a .by .program) (a .object) (a .len) (a .new .now)) refl))))
 
 same-length : tie.Need-same-length
 same-length c = search needs

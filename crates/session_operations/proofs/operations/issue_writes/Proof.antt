@@ -21,8 +21,8 @@ use Rattle.session_operations.proofs.operations.issue_writes.Statement.
 use Rattle.session_operations.proofs.operations.issue_writes.Tie as tie
 
 -- where its operations are these, they may be issued
-these : (t : tie.Start) (os : List Operation) → let a = t .args in writesAt (a .len) (a .object) (a .offset) (a .«data» .now) ≡ os → MayIssue (a .n) (a .b) (a .m) (a .program) (a .view .now) (a .log .now) os
-these t os e = let a = t .args in subst (MayIssue (a .n) (a .b) (a .m) (a .program) (a .view .now) (a .log .now)) e (t .pre .1)
+these : (t : tie.Start) (os : List Operation) → let a = t .args in writesAt (a .len) (a .object) (a .offset) (a .«data» .now) ≡ os → MayIssue (a .n) (a .b) (a .m) (a .by .program) (a .view .now) (a .log .now) os
+these t os e = let a = t .args in subst (MayIssue (a .n) (a .b) (a .m) (a .by .program) (a .view .now) (a .log .now)) e (t .pre .1)
 
 -- from the length on
 behind : (t : tie.Start) → let a = t .args in a .len ≤ a .offset → writesAt (a .len) (a .object) (a .offset) (a .«data» .now) ≡ Operation.append (a .object) (a .len) (a .«data» .now) ∷ []
@@ -38,7 +38,7 @@ issue-range-requires c κs =
     let t = c .before .before .before .before .before .before in
     let a = t .args in
     let y = these t _ (behind t (omega arith)) in
-    (y .held .log, (y .held .view, (issuing-room (y .held) (y .issuing), (refl, issuing-able (y .held) (y .issuing) (rangeRecord Append (readLog (a .m) (a .log .now) .next) (a .program) (a .object) (a .len) (a .«data» .now)) refl))))
+    (y .held .log, (y .held .view, (issuing-room (y .held) (y .issuing), (refl, issuing-able (y .held) (y .issuing) (rangeRecord Append (readLog (a .m) (a .log .now) .head .next) (a .by .program) (a .object) (a .len) (a .«data» .now)) refl))))
 
 same-length : tie.Need-same-length
 same-length c = search needs
@@ -54,7 +54,7 @@ returns c =
     let t = place .before .before .before .before in
     let a = t .args in
     let r = e .issue-range in
-    subst (AllIssued (a .b) (a .m) (r .result) (r .last .0) (r .last .1 .0) (readVolume (a .n) (a .b) (a .view .now)) (readLog (a .m) (a .log .now)) (a .program))
+    subst (AllIssued (a .b) (a .m) (r .result) (r .last .0) (r .last .1 .0) (readVolume (a .n) (a .b) (a .view .now)) (readLog (a .m) (a .log .now)) (a .by .program))
     (sym (behind t (omega (arith, place)))) (one-issued (r .ensures))
 
 sub-inside : tie.Need-sub-inside
@@ -66,7 +66,7 @@ issue-range-requires-2 c κs =
     let t = c .before .before .before .before .before .before .before in
     let a = t .args in
     let y = these t _ (inside t (omega arith)) in
-    (y .held .log, (y .held .view, (issuing-room (y .held) (y .issuing), (refl, issuing-able (y .held) (y .issuing) (rangeRecord Overwrite (readLog (a .m) (a .log .now) .next) (a .program) (a .object) (a .offset) (a .«data» .now)) refl))))
+    (y .held .log, (y .held .view, (issuing-room (y .held) (y .issuing), (refl, issuing-able (y .held) (y .issuing) (rangeRecord Overwrite (readLog (a .m) (a .log .now) .head .next) (a .by .program) (a .object) (a .offset) (a .«data» .now)) refl))))
 
 same-length-3 : tie.Need-same-length-3
 same-length-3 c = search needs
@@ -82,7 +82,7 @@ returns-2 c =
     let t = place .before .before .before .before .before in
     let a = t .args in
     let r = e .issue-range2 in
-    subst (AllIssued (a .b) (a .m) (r .result) (r .last .0) (r .last .1 .0) (readVolume (a .n) (a .b) (a .view .now)) (readLog (a .m) (a .log .now)) (a .program))
+    subst (AllIssued (a .b) (a .m) (r .result) (r .last .0) (r .last .1 .0) (readVolume (a .n) (a .b) (a .view .now)) (readLog (a .m) (a .log .now)) (a .by .program))
     (sym (inside t (omega (arith, place)))) (one-issued (r .ensures))
 
 sub-old : tie.Need-sub-old
@@ -122,7 +122,7 @@ returns-3 c =
     let t = place .before .before .before .before .before .before .before in
     let a = t .args in
     let r = e .issue-across in
-    subst (AllIssued (a .b) (a .m) (r .result) (r .last .0) (r .last .1 .0) (readVolume (a .n) (a .b) (a .view .now)) (readLog (a .m) (a .log .now)) (a .program))
+    subst (AllIssued (a .b) (a .m) (r .result) (r .last .0) (r .last .1 .0) (readVolume (a .n) (a .b) (a .view .now)) (readLog (a .m) (a .log .now)) (a .by .program))
     (sym (parts-written (a .len) (a .object) (a .offset) (a .«data» .now) (omega (arith, place)) (omega (arith, place)))) (r .ensures)
 
 pub issue-writes-spec : {M : Type 1} → statement M

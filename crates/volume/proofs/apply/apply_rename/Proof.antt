@@ -1,7 +1,7 @@
 -- `volume::apply::apply_rename` meets its contract: the displaced object is freed first, and the volume is well formed then too.
 -- Assumes nothing.
 use mathlib.Core.Path.{ap, _∙_}
-use Rattle.volume_entry.specs.Entry.{isUsed}
+use Rattle.volume_entry.specs.Entry.{hasName}
 use Rattle.volume_tree.specs.Stored.{readVolume}
 use Rattle.volume.specs.Laws.Rename.{displaces, freed-formed, freed-entry, renamed-after, renamed-alone}
 use borrow.Author.Needs.{needs}
@@ -24,7 +24,7 @@ rename-entry-requires c κs =
     let x = displaces (a .n) (a .b) (readVolume (a .n) (a .b) (a .s .now)) (a .objects .object) (a .displacing) (a .objects .displaced) (p .1 .1) (z .before .before .if1 .taken) in
     let f = freed-formed (a .n) (a .b) (a .s .now) (p .0) (a .objects .displaced) (x .2) (z .free-entry .last .0) (z .free-entry .ensures) in
     let e = freed-entry (a .n) (a .b) (a .s .now) (p .0) (a .objects .displaced) (x .2) (z .free-entry .last .0) (z .free-entry .ensures) (a .objects .object) (x .1) in
-    (f, (p .1 .0 .0, ap isUsed e ∙ p .1 .0 .1, p .1 .0 .2))
+    (f, (p .1 .0 .0, ap hasName e ∙ p .1 .0 .1, p .1 .0 .2))
 
 same-length : tie.Need-same-length
 same-length c = search needs

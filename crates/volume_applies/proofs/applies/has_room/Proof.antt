@@ -3,13 +3,11 @@
 use Prim.Native.Nat.{ℕ, _<_}
 use mathlib.Core.Bool.{Bool, true, false, not}
 use mathlib.Core.List.{List}
-use mathlib.Core.Path.{_≡_, refl}
-use lib.Dec.{eqb}
+use mathlib.Core.Path.{_≡_}
 use lib.ListN.{length}
 use borrow.Author.Needs.{needs}
 use borrow.Author.Tests.{lt-ltb}
-use Rattle.volume_entry.specs.Entry.{isDirectory, kindNumber}
-use Rattle.volume_entry.specs.Laws.Field.{used-kind}
+use Rattle.volume_entry.specs.Entry.{isUsed, isDirectory}
 use Rattle.volume_tree.specs.declared.search.Found.the-variants.{At, Nothing}
 use Rattle.volume_tree.specs.Answer.{foundOf}
 use Rattle.volume_tree.specs.Laws.Answer.{settled, of-entry, found-at, found-nothing}
@@ -20,18 +18,13 @@ use Rattle.volume_tree.specs.Laws.Lent.{length-read, entry-long}
 use Rattle.volume_applies.proofs.applies.has_room.Statement.{statement}
 use Rattle.volume_applies.proofs.applies.has_room.Tie as tie
 
--- a test that is denied twice is itself
-twice : (t : Bool) → not (not t) ≡ t
-twice true = refl
-twice false = refl
-
 module _ (v : Volume) (o p : ℕ) (m : List ℕ) where
   present : isDirectory (entryAt v p) ≡ true → (i : ℕ) → At i ≡ foundOf (sought v p m) → false ≡ hasRoom v o p m
   present e i t = rw (e, found-at (sought v p m) i t)
 
-  absent : isDirectory (entryAt v p) ≡ true → Nothing ≡ foundOf (sought v p m) → o < length v → (k : ℕ) → k ≡ kindNumber (entryAt v o)
-      → eqb k 0 ≡ hasRoom v o p m
-  absent e t h k q = rw (e, found-nothing (sought v p m) t, lt-ltb o (length v) h, q, ← (used-kind (entryAt v o)), twice)
+  absent : isDirectory (entryAt v p) ≡ true → Nothing ≡ foundOf (sought v p m) → o < length v → (u : Bool) → u ≡ isUsed (entryAt v o)
+      → not u ≡ hasRoom v o p m
+  absent e t h u q = rw (e, found-nothing (sought v p m) t, lt-ltb o (length v) h, q)
 
   other : isDirectory (entryAt v p) ≡ false → false ≡ hasRoom v o p m
   other e = rw e
@@ -56,8 +49,8 @@ entry-requires-2 c κs =
     let start = c .before .before .before .before .before .before .before .before in
     let p = start .pre in (p .0, p .1 .0)
 
-kind-requires : tie.Need-kind-requires
-kind-requires c κs = entry-long (c .entry2 .ensures)
+is-used-requires : tie.Need-is-used-requires
+is-used-requires c κs = entry-long (c .entry2 .ensures)
 
 returns : tie.Need-returns
 returns c =
@@ -78,7 +71,7 @@ returns-2 c =
     let v = readVolume (a .n) (a .b) (a .s .now) in
     absent v (a .o) (a .p) (a .name .now) (settled (of-entry isDirectory (t .before .before .entry .ensures) (t .before .is-directory .ensures)) (t .if1 .taken))
     (settled (e .before .enum-told .given .1) (k .search .ensures)) (rw (length-read (a .n) (a .b) (a .s .now)) (s .pre .1 .0))
-    (c .kind .result) (of-entry kindNumber (e .entry2 .ensures) (c .kind .ensures))
+    (c .is-used .result) (of-entry isUsed (e .entry2 .ensures) (c .is-used .ensures))
 
 returns-3 : tie.Need-returns-3
 returns-3 c =
@@ -96,7 +89,7 @@ has-room-spec =
     enum-known-i
     enum-told
     entry-requires-2
-    kind-requires
+    is-used-requires
     returns
     returns-2
     returns-3)

@@ -6,7 +6,7 @@ use mathlib.Core.Path.{_≡_, sym, ap}
 use lib.ListN.{length, List·getD-eq-default}
 use native.Mathlib.Omega.{arith}
 use borrow.Author.Tests.{eq-eqb, ne-eqb}
-use Rattle.volume_entry.specs.Entry.{free, isUsed, isDirectory, parentOf}
+use Rattle.volume_entry.specs.Entry.{free, hasName, isDirectory, parentOf}
 use Rattle.volume_tree.specs.Volume.{Volume, entryAt}
 use Rattle.volume_tree.specs.Stored.{readVolume}
 use Rattle.volume_tree.specs.Laws.Lent.{length-read, entry-long}
@@ -19,15 +19,15 @@ module _ (v : Volume) (i : ℕ) where
   first : i ≡ 0 → true ≡ parented v i
   first h = rw (eq-eqb i 0 h)
 
-  unused : isUsed (entryAt v i) ≡ false → true ≡ parented v i
-  unused e = rw (e, or-true)
+  unnamed : hasName (entryAt v i) ≡ false → true ≡ parented v i
+  unnamed e = rw (e, or-true)
 
-  module _ (z : i ≡ 0 → ⊥) (u : isUsed (entryAt v i) ≡ true) (p : ℕ) (q : p ≡ parentOf (entryAt v i)) where
-    used : (r : Bool) → r ≡ isDirectory (entryAt v p) → r ≡ parented v i
-    used r e = rw (ne-eqb i 0 z, u, ← q) e
+  module _ (z : i ≡ 0 → ⊥) (u : hasName (entryAt v i) ≡ true) (p : ℕ) (q : p ≡ parentOf (entryAt v i)) where
+    named : (r : Bool) → r ≡ isDirectory (entryAt v p) → r ≡ parented v i
+    named r e = rw (ne-eqb i 0 z, u, ← q) e
 
     past : length v ≤ p → false ≡ parented v i
-    past h = used false (ap isDirectory (sym (List·getD-eq-default v free h)))
+    past h = named false (ap isDirectory (sym (List·getD-eq-default v free h)))
 
 returns : tie.Need-returns
 returns c = let a = c .before .before .args in first (readVolume (a .n) (a .b) (a .s .now)) (a .i) (c .if1 .taken)
@@ -35,8 +35,8 @@ returns c = let a = c .before .before .args in first (readVolume (a .n) (a .b) (
 entry-requires : tie.Need-entry-requires
 entry-requires c κs = c .before .before .pre
 
-is-used-requires : tie.Need-is-used-requires
-is-used-requires c κs = entry-long (c .entry .ensures)
+has-name-requires : tie.Need-has-name-requires
+has-name-requires c κs = entry-long (c .entry .ensures)
 
 parent-requires : tie.Need-parent-requires
 parent-requires c κs = entry-long (c .before .before .entry .ensures)
@@ -55,7 +55,7 @@ returns-2 c =
     let t = p .before in
     let e = t .before .before in
     let a = e .before .before .before .args in
-    used (readVolume (a .n) (a .b) (a .s .now)) (a .i) (e .before .if1 .left) (settled (of-entry isUsed (e .entry .ensures) (t .before .is-used .ensures)) (t .if2 .taken)) (p .parent .result)
+    named (readVolume (a .n) (a .b) (a .s .now)) (a .i) (e .before .if1 .left) (settled (of-entry hasName (e .entry .ensures) (t .before .has-name .ensures)) (t .if2 .taken)) (p .parent .result)
     (of-entry parentOf (e .entry .ensures) (p .parent .ensures .0))
     (c .is-directory .result) (of-entry isDirectory (c .before .entry2 .ensures) (c .is-directory .ensures))
 
@@ -65,14 +65,14 @@ returns-3 c =
     let t = p .before in
     let e = t .before .before in
     let a = e .before .before .before .args in
-    past (readVolume (a .n) (a .b) (a .s .now)) (a .i) (e .before .if1 .left) (settled (of-entry isUsed (e .entry .ensures) (t .before .is-used .ensures)) (t .if2 .taken)) (p .parent .result)
+    past (readVolume (a .n) (a .b) (a .s .now)) (a .i) (e .before .if1 .left) (settled (of-entry hasName (e .entry .ensures) (t .before .has-name .ensures)) (t .if2 .taken)) (p .parent .result)
     (of-entry parentOf (e .entry .ensures) (p .parent .ensures .0))
     (rw (length-read (a .n) (a .b) (a .s .now)) (c .if3 .left))
 
 returns-4 : tie.Need-returns-4
 returns-4 c =
     let a = c .before .before .before .before .before .args in
-    unused (readVolume (a .n) (a .b) (a .s .now)) (a .i) (settled (of-entry isUsed (c .before .before .entry .ensures) (c .before .is-used .ensures)) (c .if2 .left))
+    unnamed (readVolume (a .n) (a .b) (a .s .now)) (a .i) (settled (of-entry hasName (c .before .before .entry .ensures) (c .before .has-name .ensures)) (c .if2 .left))
 
 pub is-parented-spec : {M : Type 1} → statement M
 is-parented-spec =
@@ -80,7 +80,7 @@ is-parented-spec =
     (tie.spec
     returns
     entry-requires
-    is-used-requires
+    has-name-requires
     parent-requires
     entry-requires-2
     is-directory-requires

@@ -5,7 +5,7 @@ use mathlib.Core.Bool.{true, false, and-false}
 use mathlib.Core.Path.{_≡_}
 use lib.Dec.{eqb}
 use borrow.Author.Tests.{eq-eqb, ne-eqb}
-use Rattle.volume_entry.specs.Entry.{isUsed, parentOf}
+use Rattle.volume_entry.specs.Entry.{hasName, parentOf}
 use Rattle.volume_tree.specs.Volume.{Volume, entryAt, isChild}
 use Rattle.volume_tree.specs.Stored.{readVolume}
 use Rattle.volume_tree.specs.Laws.Lent.{entry-long}
@@ -17,11 +17,11 @@ module _ (v : Volume) (d i : ℕ) where
   first : i ≡ 0 → false ≡ isChild v d i
   first h = rw (eq-eqb i 0 h)
 
-  unused : isUsed (entryAt v i) ≡ false → false ≡ isChild v d i
-  unused e = rw (e, and-false)
+  unnamed : hasName (entryAt v i) ≡ false → false ≡ isChild v d i
+  unnamed e = rw (e, and-false)
 
-  used : (i ≡ 0 → ⊥) → isUsed (entryAt v i) ≡ true → (p : ℕ) → p ≡ parentOf (entryAt v i) → eqb p d ≡ isChild v d i
-  used h e p q = rw (ne-eqb i 0 h, e, q)
+  named : (i ≡ 0 → ⊥) → hasName (entryAt v i) ≡ true → (p : ℕ) → p ≡ parentOf (entryAt v i) → eqb p d ≡ isChild v d i
+  named h e p q = rw (ne-eqb i 0 h, e, q)
 
 returns : tie.Need-returns
 returns c = let a = c .before .before .args in first (readVolume (a .n) (a .b) (a .s .now)) (a .d) (a .i) (c .if1 .taken)
@@ -29,8 +29,8 @@ returns c = let a = c .before .before .args in first (readVolume (a .n) (a .b) (
 entry-requires : tie.Need-entry-requires
 entry-requires c κs = c .before .before .pre
 
-is-used-requires : tie.Need-is-used-requires
-is-used-requires c κs = entry-long (c .entry .ensures)
+has-name-requires : tie.Need-has-name-requires
+has-name-requires c κs = entry-long (c .entry .ensures)
 
 parent-requires : tie.Need-parent-requires
 parent-requires c κs = entry-long (c .before .before .entry .ensures)
@@ -41,16 +41,16 @@ returns-2 c =
     let e = t .before .before in
     let a = e .before .before .before .args in
     let v = readVolume (a .n) (a .b) (a .s .now) in
-    used v (a .d) (a .i) (e .before .if1 .left) (settled (of-entry isUsed (e .entry .ensures) (t .before .is-used .ensures)) (t .if2 .taken))
+    named v (a .d) (a .i) (e .before .if1 .left) (settled (of-entry hasName (e .entry .ensures) (t .before .has-name .ensures)) (t .if2 .taken))
     (c .parent .result) (of-entry parentOf (e .entry .ensures) (c .parent .ensures .0))
 
 returns-3 : tie.Need-returns-3
 returns-3 c =
     let a = c .before .before .before .before .before .args in
     let v = readVolume (a .n) (a .b) (a .s .now) in
-    unused v (a .d) (a .i) (settled (of-entry isUsed (c .before .before .entry .ensures) (c .before .is-used .ensures)) (c .if2 .left))
+    unnamed v (a .d) (a .i) (settled (of-entry hasName (c .before .before .entry .ensures) (c .before .has-name .ensures)) (c .if2 .left))
 
 pub is-child-spec : {M : Type 1} → statement M
 is-child-spec =
     tie.close
-    (tie.spec returns entry-requires is-used-requires parent-requires returns-2 returns-3)
+    (tie.spec returns entry-requires has-name-requires parent-requires returns-2 returns-3)
