@@ -7,6 +7,8 @@ FOLDER is the repository's, by default the folder above this file's; without a S
 The definitions are the files crates/*/specs/**/*.antt. What runs is translated from their text: each function that a call needs,
 from `step`, `format`, `formatLeaves`, `mount` and the record reader on, becomes one Python function, clause by clause. By hand are
 only the functions of the proof library (LIBRARY) and the lines of a script that are no calls (Player).
+From an accepted mount on, as long as nothing but calls changes the areas, the register is fed with each call and its answer (`feed`),
+and held against what the areas then store: server, view, what waits, and what each program has lost.
 
 Numbers, `true` and `false` are Python's; lists are tuples; a value of a data type is a tuple of its constructor's name and the
 arguments; a record is a named tuple. A function that is passed as a value takes one argument at a time.
@@ -555,6 +557,35 @@ def fnv_1a(data):
     return state
 
 
+class Fed:
+    """The register since an accepted mount, fed with each call's arguments and answers."""
+
+    def __init__(self, run, geometry, server):
+        self.run, self.geometry, self.programs, self.taken = run, geometry, set(), {}
+        self.register = run['begun'](run['decodeVolume'](geometry.f_objects, geometry.f_blocks, server)[1])
+
+    def call(self, call, answer, buffers):
+        """Feeds one call, and holds the register against the buffers as the call left them."""
+        run = self.run
+        self.register = run['feed'](call, answer, self.register)
+        model = run['decodeModel'](self.geometry, buffers)
+        if model[0] != 'some':
+            raise Unclear('the register: the buffers store nothing')
+        model, slots = model[1], model[1].f_log.f_slots
+        self.agree('server', run['replay'](self.register.f_mounted, run['sentIn'](self.register)), model.f_server)
+        self.agree('view', run['viewOf'](self.register), model.f_view)
+        self.agree('what waits', run['waitingIn'](self.register), run['waitingOf'](slots))
+        self.programs.update(a.f_recorded.f_program for a in self.register.f_operations)
+        for program in self.programs:
+            taken = self.taken[program] = self.taken.get(program, ()) + run['wrote'](program, call, answer)
+            left = tuple(run['encode'](r) for r in run['lossesOf'](program, slots))
+            self.agree(f'losses of program {program}', run['lostRecords'](program, self.register), taken + left)
+
+    def agree(self, what, told, stored):
+        if told != stored:
+            raise Unclear(f'the register: {what} is another than the buffers store')
+
+
 class Player:
     """Plays the lines of a script: the areas s, v and l, what is given and lent, and the calls by the definitions."""
 
@@ -574,7 +605,7 @@ class Player:
     def __init__(self, translator, returned):
         self.translator, self.returned = translator, returned
         self.areas = {area: bytearray(self.AREA) for area in 'svl'}
-        self.given, self.lengths, self.number = [0, 0, 0], [0, 0, 0], 0
+        self.given, self.lengths, self.number, self.fed, self.fed_calls = [0, 0, 0], [0, 0, 0], 0, None, 0
 
     def play(self, script):
         """What a script prints, line by line."""
@@ -607,11 +638,11 @@ class Player:
         return tuple(bytes.fromhex(word[1:])) if kind == '=' else word
 
     def line_give(self, *numbers):
-        self.given = numbers
+        self.given, self.fed = numbers, None
 
     def line_size(self, *lengths):
         must(max(lengths) <= self.AREA)
-        self.lengths = lengths
+        self.lengths, self.fed = lengths, None
 
     def line_fit(self):
         n, b, m = self.given
@@ -620,10 +651,10 @@ class Player:
 
     def line_poke(self, area, at, values):
         must(at + len(values) <= self.AREA)
-        self.areas[area][at:at + len(values)] = bytes(values)
+        self.areas[area][at:at + len(values)], self.fed = bytes(values), None
 
     def line_copy(self, to, source):
-        self.areas[to][:] = self.areas[source]
+        self.areas[to][:], self.fed = self.areas[source], None
 
     def line_show(self, area, at, length):
         must(length <= self.LONGEST_BYTES and at + length <= self.AREA)
@@ -654,10 +685,17 @@ class Player:
             number, results = run['readingNumber'](reading), run['readingResults'](reading)
         elif name == 'format':
             number, results, left = run['format'](geometry, lent[0]), (), [run['formatLeaves'](geometry, lent[0])] + lent[1:]
+            self.fed = None
         else:
-            result = run['mount'](geometry, buffers) if name == 'mount' else run['step'](geometry, self.made(name, arguments), buffers)
+            made = None if name == 'mount' else self.made(name, arguments)
+            result = run['step'](geometry, made, buffers) if made else run['mount'](geometry, buffers)
             number, results, own = result.f_gives.f_returned, result.f_gives.f_results, result.f_gives.f_buffer
             left = [result.f_leaves.f_server, result.f_leaves.f_view, result.f_leaves.f_log]
+            if made and self.fed:
+                self.fed_calls += 1
+                self.fed.call(made, result.f_gives, result.f_leaves)
+            elif not made and number == 0:
+                self.fed = Fed(run, geometry, left[0])
         for area, before, after in zip('svl', lent, left):
             if len(before) != len(after):
                 raise Unclear(f'{len(after)} bytes are left in area {area}, {len(before)} were lent')
@@ -667,7 +705,7 @@ class Player:
         return ' '.join([str(number)] + [str(r) for r in results] + (['=' + bytes(own).hex()] if name in self.BUFFERED else []))
 
 
-def difference(translator, script, returned):
+def difference(translator, script, returned, fed):
     """Where the answers to a script first differ from the stored ones; nothing if they do not."""
     text, stored = [file.read_bytes().decode('latin-1') for file in (script, script.with_suffix('.answers'))]
     player, answers, printed = Player(translator, returned), stored.split('\n'), []
@@ -678,6 +716,7 @@ def difference(translator, script, returned):
                 break
     except (Unclear, ValueError, TypeError, AttributeError, IndexError, ArithmeticError, RecursionError, MemoryError) as error:
         printed.append(f'{type(error).__name__}: {error}')
+    fed[0] += player.fed_calls
     if ''.join(line + '\n' for line in printed) == stored:
         return ''
     at = next((i for i, pair in enumerate(zip(printed, answers)) if pair[0] != pair[1]), len(printed))
@@ -690,25 +729,31 @@ def main():
     parser.add_argument('--root', type=pathlib.Path, default=pathlib.Path(__file__).resolve().parent.parent)
     parser.add_argument('scripts', nargs='*', type=pathlib.Path, metavar='SCRIPT')
     chosen = parser.parse_args()
-    repository, start, returned, differing = Repository(chosen.root), time.time(), collections.Counter(), 0
+    repository, start, returned, fed, differing = Repository(chosen.root), time.time(), collections.Counter(), [0], 0
     translator = Translator(repository)
     try:
         named = {'session': ('step', 'format', 'formatLeaves', 'mount'), 'reader': ('recordAt', 'readingNumber', 'readingResults')}
         translator.entries = {name: translator.load(repository.defining(name, crate).definitions[name])
                               for crate, names in named.items() for name in names}
         translator.calls = repository.module('Rattle.session.specs.Call').definitions
+        for path, names in {'register.specs.Register': 'begun sentIn waitingIn viewOf', 'register.specs.Replay': 'replay',
+                            'register.specs.Feed': 'feed', 'register.specs.Takes': 'wrote lostRecords', 'record.specs.Fields': 'encode',
+                            'log.specs.Change': 'waitingOf lossesOf', 'session.specs.Step': 'decodeModel',
+                            'volume_tree.specs.Stored': 'decodeVolume'}.items():
+            for name in names.split():
+                translator.entries[name] = translator.load(repository.module(f'Rattle.{path}').definitions[name])
     except Unclear as reason:
         print(f'not translated: {reason}')
         return 2
     scripts = chosen.scripts or sorted((chosen.root / 'cases').glob('*.script'))
     for script in scripts:
-        told = difference(translator, script, returned)
+        told = difference(translator, script, returned, fed)
         differing += bool(told)
         if told:
             print(told, flush=True)
     refused = ', '.join(f'{count} with {number}' for number, count in sorted(returned.items()) if number)
     print(f'{translator.translated} definitions translated; {sum(returned.values())} calls played in {time.time() - start:.0f} s: '
-          f'{returned[0]} accepted, refused {refused or "none"}')
+          f'{returned[0]} accepted, refused {refused or "none"}; the register fed with {fed[0]}')
     print(f'{len(scripts)} scripts, {differing} differing')
     return 1 if differing or not scripts else 0
 

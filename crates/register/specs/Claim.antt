@@ -1,30 +1,34 @@
 -- The demands of document 01 on what calls do: one claim.
-use Prim.Native.Nat.{ℕ, _<_}
+use Prim.Native.Nat.{ℕ, _+_, _<_}
 use mathlib.Core.Path.{_≡_}
 use mathlib.Core.Logic.{_⊎_, _↔_}
 use mathlib.Core.List.{List, [], _∷_, _++_, map, List·Memᴰ}
-use mathlib.Core.Bool.{Bool, true, false}
+use mathlib.Core.Bool.{Bool, true, false, cond}
 use mathlib.Core.Option.{some}
-use lib.ListN.{length, replicate}
+use lib.ListN.{length, replicate, take}
+use lib.Dec.{eqb}
 use Rattle.returned.specs.Returned
 use Rattle.record.specs.Operation.{Operation, Record, operands}
 use Rattle.record.specs.Fields.{member, encode, valid}
 use Rattle.record.specs.Decode.{decodeRecord}
 use Rattle.volume_tree.specs.Volume.{Volume}
 use Rattle.volume_tree.specs.Stored.{encodeVolume}
-use Rattle.volume_apply.specs.Apply.{applies}
+use Rattle.volume_apply.specs.Apply.{applies, apply}
 use Rattle.log.specs.Programs.{holds}
-use Rattle.log.specs.Order.{PrecedesIn, needed}
+use Rattle.log.specs.Slot.{Slot, withSlots, sequenceOf, isWaiting as slotWaits}
+use Rattle.log.specs.Order.{any, PrecedesIn, needed}
 use Rattle.log.specs.Change.{waitingOf, lossesOf}
-use Rattle.session.specs.Call.{Geometry, Buffers, Call, fsync, push, cut, take as takeLoss, Answer, resultCount, ownBuffer}
+use Rattle.session.specs.Class.{Question, Change}
+use Rattle.session.specs.Call.{Geometry, Buffers, Call, question, change, fsync, push, cut, take as takeLoss, renew, Answer, resultCount, ownBuffer}
 use Rattle.session.specs.Model.{Model}
-use Rattle.session.specs.Issue.{issues, alters}
-use Rattle.session.specs.Step.{Result, Stores, step, mount, decodeModel}
+use Rattle.session.specs.Step.{Result, Stores, step, mount, decodeModel, encodeModel}
 use Rattle.register.specs.Replay.{replay}
-use Rattle.register.specs.Register.{Register, Acknowledged, isWaiting, isSent, isLost, sentIn, waitingIn, lostIn, viewOf, neededFor, toldBy}
+use Rattle.register.specs.Register.{Register, Acknowledged, isWaiting, isSent, isLost, sentIn, waitingIn, lostIn, viewOf, recordedOf}
 use Rattle.register.specs.History.{Is, Precedes, Marked}
+use Rattle.register.specs.Feed.{neededFor, operationsIn, operandsIn}
+use Rattle.register.specs.Fates.{Fates, Nobody, Adds, Enters}
 use Rattle.register.specs.Run.{Moment, Run, Mounted, next, play, CouldHaveBeenSent}
-use Rattle.register.specs.Takes.{lostRecords, fetchedBy, Distinct}
+use Rattle.register.specs.Takes.{lostRecords, fetchedBy, acceptedTakes, Distinct}
 
 -- each record of a list applies to the replay of those before it
 abbrev pub AppliesInTurn : Volume → List Record → Type 0
@@ -58,33 +62,50 @@ pub record ClosedSet (before after : Register) (set : ℕ → Bool) : Type 0 whe
   pub added : (a : Acknowledged) → Is a before → isLost a ≡ true → set (a .recorded .sequence) ≡ false
   pub closed : (a b : Acknowledged) → Is a after → Is b after → Precedes after a b → set (b .recorded .sequence) ≡ true → set (a .recorded .sequence) ≡ true
 
--- the record of an acknowledged operation
-abbrev pub recordedOf : Acknowledged → Record
-recordedOf a = a .recorded
-
 -- what was fetched by a program, and then what the log still holds of its losses
 abbrev pub ownLosses : ℕ → Run → Model → List (List ℕ)
 ownLosses p r x = fetchedBy p (r .moments) ++ map encode (lossesOf p (x .log .slots))
 
--- what a call adds to the register: an operation, and others after it
-pub record Adds (g : Geometry) (m : Moment) : Type 0 where
-  pub first : Acknowledged
-  pub others : List Acknowledged
-  pub added : next g (m .call) (m .before) .register .operations ≡ m .before .register .operations ++ (first ∷ others)
-  pub told : m .answer .results ≡ first .recorded .sequence ∷ []
+-- one of the first k operations that an fsync covers, in issue order
+abbrev pub First : ℕ → ℕ → Register → Acknowledged → Type 0
+First k o r a = List·Memᴰ (a .recorded) (take k (neededFor o r))
 
--- what a call answers: an accepted one that issues operations the number of the first that the register adds, and an accepted change or
--- forder issues some; an accepted fsync how many it needs, and an fsync that loses the link the k that it sends
-pub record Answers (g : Geometry) (m : Moment) : Type 0 where
-  pub change :
-      (o : Operation) (os : List Operation) → issues (toldBy (m .before .register)) (m .call) ≡ o ∷ os → m .answer .returned ≡ 0 → Adds g m
-  pub issued :
-      alters (m .call) ≡ true → m .answer .returned ≡ 0
-      → (o : Operation) × (os : List Operation) × (issues (toldBy (m .before .register)) (m .call) ≡ o ∷ os)
-  pub sync : (p o k : ℕ) → m .call ≡ fsync p o k → m .answer .returned ≡ 0 → m .answer .results ≡ length (neededFor o (m .before .register)) ∷ []
-  pub link :
-      (p o k : ℕ) → m .call ≡ fsync p o k → m .answer .returned ≡ Returned.linkLost
-      → (m .answer .results ≡ k ∷ []) × (k < length (neededFor o (m .before .register)))
+-- what a call makes of a register r, which then is s: a clause for each sentence of "The register", with the operands that the call has by
+-- "Order and dependence"
+pub record Registered (r s : Register) (c : Call) (a : Answer) : Type 0 where
+  -- "An accepted change or forder adds its operation, waiting, numbered on from 1, its record completed from the replay of the sent and
+  -- waiting": it has the operands of its operations
+  pub changed :
+      (p : ℕ) (d : Change) → c ≡ change p d → a .returned ≡ 0
+      → Adds r s p (operationsIn (viewOf r) d) × Enters r s (map (λ (o : Operation). (p, operands o)) (operationsIn (viewOf r) d)) []
+  -- "An accepted push sends its operation", which waits
+  pub pushed :
+      (q : ℕ) → c ≡ push q → a .returned ≡ 0
+      → ((b : Acknowledged) × Is b r × (b .recorded .sequence ≡ q) × (isWaiting b ≡ true)) × Fates r s (λ b. b .recorded .sequence ≡ q) Nobody × Enters r s [] []
+  -- "an accepted fsync the d it needs (it covers them)"
+  pub synced : (p o k : ℕ) → c ≡ fsync p o k → a .returned ≡ 0 → Fates r s (Covers r o) Nobody × Enters r s ((p, o ∷ []) ∷ []) []
+  -- "refusal 17 the first k", and all else that waits is lost: "Fsync counts as such a call even if the link fails", so its caller is marked
+  pub linkLost :
+      (p o k : ℕ) → c ≡ fsync p o k → a .returned ≡ Returned.linkLost
+      → Fates r s (First k o r) (λ b. (isWaiting b ≡ true) × (First k o r b → ⊥)) × Enters r s ((p, o ∷ []) ∷ []) [] × Marked s p
+  -- "A cut .. makes all waiting ones lost."
+  pub cutOff : c ≡ cut → a .returned ≡ 0 → Fates r s Nobody (λ b. isWaiting b ≡ true) × Enters r s [] []
+  -- "Nothing else here changes it": an accepted question brings its operands, a renewal itself, and a take nothing
+  pub asked : (p : ℕ) (q : Question) → c ≡ question p q → a .returned ≡ 0 → (s .operations ≡ r .operations) × Enters r s ((p, operandsIn (viewOf r) q) ∷ []) []
+  pub renewed : (p : ℕ) → c ≡ renew p → a .returned ≡ 0 → (s .operations ≡ r .operations) × Enters r s [] (p ∷ [])
+  pub taken : (p : ℕ) (own : List ℕ) → c ≡ takeLoss p own → s ≡ r
+  -- "Refused calls bring no dependence."
+  pub refused : (a .returned ≡ 0 → ⊥) → (a .returned ≡ Returned.linkLost → ⊥) → s ≡ r
+
+-- what a call answers: an accepted change or forder the number of the first operation that the register adds, and it adds some; an accepted
+-- fsync how many it needs, and an fsync that loses the link the k that it sends
+pub record Answers (r : Register) (c : Call) (a : Answer) : Type 0 where
+  pub number :
+      (p : ℕ) (d : Change) → c ≡ change p d → a .returned ≡ 0 → (o : Operation) (os : List Operation) → operationsIn (viewOf r) d ≡ o ∷ os
+      → a .results ≡ (length (r .operations) + 1) ∷ []
+  pub some : (p : ℕ) (d : Change) → c ≡ change p d → a .returned ≡ 0 → (o : Operation) × (os : List Operation) × (operationsIn (viewOf r) d ≡ o ∷ os)
+  pub sync : (p o k : ℕ) → c ≡ fsync p o k → a .returned ≡ 0 → a .results ≡ length (neededFor o r) ∷ []
+  pub link : (p o k : ℕ) → c ≡ fsync p o k → a .returned ≡ Returned.linkLost → (a .results ≡ k ∷ []) × (k < length (neededFor o r))
 
 -- after a list of calls on what an accepted mount of the volume v left
 pub record Demand (g : Geometry) (v : Volume) (r : Run) : Type 0 where
@@ -110,8 +131,10 @@ pub record Demand (g : Geometry) (v : Volume) (r : Run) : Type 0 where
   pub covered :
       (m : Moment) → List·Memᴰ m (r .moments) → (p o k : ℕ) → m .call ≡ fsync p o k → m .answer .returned ≡ 0
       → (a : Acknowledged) → Covers (m .before .register) o a → SentAt (r .last .register) (a .recorded .sequence)
+  -- each call makes of the register what the paper's sentences say
+  pub registered : (m : Moment) → List·Memᴰ m (r .moments) → Registered (m .before .register) (next g (m .call) (m .before) .register) (m .call) (m .answer)
   -- each call answers the numbers of what it did
-  pub answered : (m : Moment) → List·Memᴰ m (r .moments) → Answers g m
+  pub answered : (m : Moment) → List·Memᴰ m (r .moments) → Answers (m .before .register) (m .call) (m .answer)
   -- the push of a waiting operation is accepted if and only if no waiting operation precedes it
   pub pushed :
       (a : Acknowledged) → Is a (r .last .register) → isWaiting a ≡ true
@@ -134,6 +157,8 @@ pub record Demand (g : Geometry) (v : Volume) (r : Run) : Type 0 where
   pub fetchedAll :
       (p : ℕ) (own : List ℕ) → step g (takeLoss p own) (r .last .buffers) .gives .returned ≡ Returned.none
       → fetchedBy p (r .moments) ≡ lostRecords p (r .last .register)
+  -- so do as many accepted takes as there are losses
+  pub fetchedCount : (p : ℕ) → acceptedTakes p (r .moments) ≡ length (lostRecords p (r .last .register)) → fetchedBy p (r .moments) ≡ lostRecords p (r .last .register)
   -- what a take wrote is read as the record of a lost operation of the program, which is valid
   pub decoded :
       (p : ℕ) (b : List ℕ) → List·Memᴰ b (fetchedBy p (r .moments))
@@ -166,16 +191,33 @@ pub record Unchanged (c : Call) (s : Buffers) (y : Result) : Type 0 where
   pub results : y .gives .results ≡ replicate (resultCount c) 0
   pub own : y .gives .buffer ≡ ownBuffer c
 
--- an fsync that meets an operation which does not apply: it reports how many were sent before that one
-pub record Stopped (k : ℕ) (v : Volume) (need : List Record) (a : Answer) : Type 0 where
+-- a push that is accepted: the server has that operation applied, its slot is freed, and all else stands as it stood
+pub record Sent (g : Geometry) (x : Model) (q : ℕ) (s : Buffers) : Type 0 where
+  pub before : List Slot
+  pub slot : Slot
+  pub after : List Slot
+  pub among : x .log .slots ≡ before ++ (slot ∷ after)
+  pub waits : slotWaits slot ≡ true
+  pub number : sequenceOf slot ≡ q
+  pub leaves : s ≡ encodeModel g (record { server = apply (x .server) (slot .recorded .operation); view = x .view; log = withSlots (before ++ after) (x .log) })
+
+-- the slots but for those of some records
+unfoldable pub freedOf : List Record → List Slot → List Slot
+freedOf l [] = []
+freedOf l (s ∷ k) = cond (any (λ r. eqb (sequenceOf s) (r .sequence)) l) (freedOf l k) (s ∷ freedOf l k)
+
+-- an fsync that meets an operation which does not apply: it reports how many were sent before that one, which stay sent, and all else stands
+-- as it stood: no cut, no dependence
+pub record Stopped (g : Geometry) (k : ℕ) (x : Model) (need : List Record) (y : Result) : Type 0 where
   pub before : List Record
   pub bad : Record
   pub after : List Record
   pub among : need ≡ before ++ (bad ∷ after)
   pub carried : length before < k
-  pub applied : AppliesInTurn v before
-  pub fails : applies (replay v before) (bad .operation) ≡ false
-  pub told : a .results ≡ length before ∷ []
+  pub applied : AppliesInTurn (x .server) before
+  pub fails : applies (replay (x .server) before) (bad .operation) ≡ false
+  pub told : y .gives .results ≡ length before ∷ []
+  pub leaves : y .leaves ≡ encodeModel g (record { server = replay (x .server) before; view = x .view; log = withSlots (freedOf before (x .log .slots)) (x .log) })
 
 -- the whole claim: on every list of calls from an accepted mount on, on two such lists, and on any buffers at all
 pub record Demands : Type 0 where
@@ -191,11 +233,16 @@ pub record Demands : Type 0 where
   pub pushed :
       (g : Geometry) (s : Buffers) (x : Model) → Stores g s x → (q : Record) → List·Memᴰ q (waitingOf (x .log .slots)) → applies (x .server) (q .operation) ≡ true
       → (step g (push (q .sequence)) s .gives .returned ≡ 0) ↔ ((a : Record) → List·Memᴰ a (waitingOf (x .log .slots)) → PrecedesIn (waitingOf (x .log .slots)) a q → ⊥)
-  -- a refused call changes nothing, but for fsync with 17 and with 2
+  -- a push that is accepted sends just its operation
+  pub sends :
+      (g : Geometry) (s : Buffers) (x : Model) → Stores g s x → (q : ℕ) → step g (push q) s .gives .returned ≡ 0 → Sent g x q (step g (push q) s .leaves)
+  -- a refused call changes nothing, but for fsync with 17, and with 2 where the buffers are of the right form
   pub unchanged :
       (g : Geometry) (c : Call) (s : Buffers) → (step g c s .gives .returned ≡ 0 → ⊥) → (step g c s .gives .returned ≡ Returned.linkLost → ⊥)
-      → (step g c s .gives .returned ≡ Returned.damaged → (p o k : ℕ) → c ≡ fsync p o k → ⊥) → Unchanged c s (step g c s)
-  -- an fsync reports how many were sent before the operation that does not apply
+      → (step g c s .gives .returned ≡ Returned.damaged → (x : Model) → Stores g s x → (p o k : ℕ) → c ≡ fsync p o k → ⊥) → Unchanged c s (step g c s)
+  -- an fsync reports how many were sent before the operation that does not apply, and leaves these sent
   pub stopped :
       (g : Geometry) (s : Buffers) (x : Model) → Stores g s x → (p o k : ℕ) → step g (fsync p o k) s .gives .returned ≡ Returned.damaged
-      → Stopped k (x .server) (needed o (waitingOf (x .log .slots))) (step g (fsync p o k) s .gives)
+      → Stopped g k x (needed o (waitingOf (x .log .slots))) (step g (fsync p o k) s)
+  -- a loss record is read if and only if it could be written: bytes begin with a valid record's, and are read as that record
+  pub read : (s : List ℕ) (q : Record) → (decodeRecord s ≡ some q) ↔ ((valid q ≡ true) × ((rest : List ℕ) × (s ≡ encode q ++ rest)))

@@ -1,4 +1,5 @@
 pub mod Fate
+pub mod Happen
 pub mod Invariant
 pub mod Pick
 pub mod Send
@@ -6,6 +7,7 @@ pub mod Operation
 pub mod Kept
 pub mod Timed
 pub mod Good
+pub mod Covered
 pub mod Precedes
 pub mod Since
 pub mod Reach
@@ -15,8 +17,13 @@ pub mod Fetched
 pub mod Fetch
 pub mod Take
 pub mod Loss
+pub mod Fed
 pub mod Run
 pub mod Could
+pub mod Fates
+pub mod Caller
+pub mod Registered
+pub mod Leaves
 pub mod Claim
 pub mod Demand
 pub mod Across

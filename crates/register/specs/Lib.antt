@@ -1,6 +1,8 @@
 pub mod Replay
 pub mod Register
 pub mod History
+pub mod Feed
+pub mod Fates
 pub mod Run
 pub mod Takes
 pub mod Claim

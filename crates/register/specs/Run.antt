@@ -10,7 +10,8 @@ use Rattle.volume_tree.specs.Volume.{Volume}
 use Rattle.volume_tree.specs.Stored.{decodeVolume}
 use Rattle.session.specs.Call.{Geometry, Buffers, Call, push, cut, Answer}
 use Rattle.session.specs.Step.{step, mount}
-use Rattle.register.specs.Register.{Register, begun, feed, Acknowledged, isSent, isWaiting, chosen}
+use Rattle.register.specs.Register.{Register, begun, Acknowledged, isSent, isWaiting, chosen}
+use Rattle.register.specs.Feed.{feed}
 use Rattle.register.specs.History.{Is}
 
 -- the three buffers and the register between two calls

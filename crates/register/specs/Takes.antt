@@ -1,5 +1,5 @@
 -- What programs fetch of their losses over a list of calls, told from the calls' arguments and answers.
-use Prim.Native.Nat.{ℕ}
+use Prim.Native.Nat.{ℕ, _+_}
 use mathlib.Core.Path.{_≡_}
 use mathlib.Core.List.{List, [], _∷_, _++_, map, List·Memᴰ}
 use mathlib.Core.Bool.{Bool, _&&_, cond}
@@ -30,6 +30,18 @@ wrote p (recovery q Class.renew) a = []
 unfoldable pub fetchedBy : ℕ → List Moment → List (List ℕ)
 fetchedBy p [] = []
 fetchedBy p (m ∷ ms) = wrote p (m .call) (m .answer) ++ fetchedBy p ms
+
+-- how many takes of a program were accepted over a list of calls
+abbrev pub tookOne : ℕ → Call → Answer → ℕ
+tookOne p (question q s) a = 0
+tookOne p (change q c) a = 0
+tookOne p (link l) a = 0
+tookOne p (recovery q (Class.take own)) a = cond (eqb (a .returned) 0 && eqb q p) 1 0
+tookOne p (recovery q Class.renew) a = 0
+
+unfoldable pub acceptedTakes : ℕ → List Moment → ℕ
+acceptedTakes p [] = 0
+acceptedTakes p (m ∷ ms) = tookOne p (m .call) (m .answer) + acceptedTakes p ms
 
 -- each differs from all behind it
 abbrev pub Distinct : List (List ℕ) → Type 0

@@ -1,7 +1,7 @@
 -- Document 01, "Calls": the operations that a change or forder issues, completed from what it is told.
 use Prim.Native.Nat.{ℕ, _-_}
 use mathlib.Core.List.{List, [], _∷_, _++_}
-use mathlib.Core.Bool.{Bool, true, false, cond}
+use mathlib.Core.Bool.{cond}
 use mathlib.Core.Option.{Option, none, some}
 use lib.ListN
 use lib.ListN.{length}
@@ -59,10 +59,3 @@ issues t (question p q) = []
 issues t (change p c) = operationsOf t c
 issues t (link l) = []
 issues t (recovery p l) = []
-
--- the changes and forder: "Each accepted change, and forder, .. takes one sequence number and waits", and two where it is two operations
-abbrev pub alters : Call → Bool
-alters (question p q) = false
-alters (change p c) = true
-alters (link l) = false
-alters (recovery p l) = false

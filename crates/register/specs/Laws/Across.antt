@@ -18,15 +18,16 @@ use Rattle.log.specs.Laws.Order.{Rising}
 use Rattle.log.specs.Change.{waitingOf}
 use Rattle.session.specs.Call.{Geometry, Buffers, Call, push, cut, Answer}
 use Rattle.session.specs.Model.{Model, mountedModel}
-use Rattle.session.specs.Issue.{alters}
+use Rattle.session.specs.Class
 use Rattle.session.specs.Laws.Write.{writes-both}
 use Rattle.session.specs.Effect.{Effect, issuing, acceptedEffects}
 use Rattle.session.specs.Step.{answerOf, effectsIn, leavesOf, mount}
 use Rattle.session.specs.Laws.Answer.{change-answered}
-use Rattle.register.specs.Register.{Register, begun, Acknowledged, waiting, isWaiting, isSent, isLost, chosen, happen, happenAll}
+use Rattle.register.specs.Register.{Register, begun, Acknowledged, waiting, isWaiting, isSent, isLost, chosen, recordedOf}
+use Rattle.register.specs.Laws.Happen.{happen, happenAll}
 use Rattle.register.specs.History.{Is, Precedes}
 use Rattle.register.specs.Run.{State, Moment, Mounted, next, run, play}
-use Rattle.register.specs.Claim.{recordedOf, SentAt, ClosedSet}
+use Rattle.register.specs.Claim.{SentAt, ClosedSet}
 use Rattle.register.specs.Across.{lengthIn, Across, firstOperation, secondOperation, WaitsAt, KeepsOnly, TwoOperations}
 use Rattle.register.specs.Laws.Fate.{FateIs, waits, went, gone, fate-is, isLive, no-both, and-none, waits-not-sent, sent-live, waiting-live}
 use Rattle.register.specs.Laws.Invariant.{Timed}
@@ -184,7 +185,8 @@ across g s v mounted cs m h w =
       second = refl;
       wait = (refl, refl);
       told =
-          ap (λ (y : Answer). y .results) (k .answer) ∙ change-answered g x (k .led .good .kept .sound) (m .call) (ap alters (w .call)) accepted .results
+          ap (λ (y : Answer). y .results) (k .answer) ∙ ap (λ (c : Call). answerOf g c x .results) (w .call)
+          ∙ change-answered g x (k .led .good .kept .sound) (w .program) (Class.write (w .object) (w .offset) (w .bytes)) (ap (λ (c : Call). answerOf g c x .returned) (sym (w .call)) ∙ accepted) .results
           ∙ ap (λ (n : ℕ). n ∷ []) (k .led .good .kept .next);
       may = f .1;
       never = f .0;

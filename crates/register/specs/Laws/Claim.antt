@@ -3,7 +3,7 @@ use Prim.Native.Nat.{ℕ, suc, _+_, _<_, _≤_}
 use native.Mathlib.Omega.{arith}
 use mathlib.Core.Path.{_≡_, refl, sym, ap, _∙_, subst}
 use mathlib.Core.Logic.{_↔_, ⊎-elim}
-use mathlib.Core.List.{List, [], _∷_, _++_, map, List·Memᴰ, List·Memᴰ·head, List·Memᴰ·not-nil, List·Memᴰ·cases-cons, append-nil, append-assoc, map-append, Memᴰ·append-left}
+use mathlib.Core.List.{List, [], _∷_, _++_, map, List·Memᴰ, List·Memᴰ·head, List·Memᴰ·not-nil, List·Memᴰ·cases-cons, append-nil, map-append, Memᴰ·append-left}
 use mathlib.Core.Bool.{Bool, true, false, not, _||_, cond}
 use mathlib.Core.Option.{some}
 use lib.ListN.{length}
@@ -11,7 +11,7 @@ use lib.ListN
 use lib.Dec.{eqb}
 use borrow.Author.Tests.{eq-eqb}
 use Rattle.returned.specs.Returned
-use Rattle.record.specs.Operation.{Operation, Record, operands}
+use Rattle.record.specs.Operation.{Record}
 use Rattle.record.specs.Fields.{encode, valid}
 use Rattle.volume_tree.specs.Volume.{Volume}
 use Rattle.volume_tree.specs.Stored.{encodeVolume}
@@ -21,34 +21,36 @@ use Rattle.log.specs.Order.{any, before, needed, preceded}
 use Rattle.log.specs.Laws.Order.{Rising, direct-decides}
 use Rattle.log.specs.Change.{waitingOf, lossesOf}
 use Rattle.log.specs.Laws.Change.{at-waiting, waiting-at, waiting-in-order}
-use Rattle.session.specs.Call.{Geometry, Buffers, Call, fsync, push, take as takeLoss, Answer}
+use Rattle.session.specs.Class.{Change}
+use Rattle.session.specs.Call.{Geometry, Buffers, Call, change, fsync, push, take as takeLoss, Answer}
 use Rattle.session.specs.Model.{Model, mountedModel, toldOf}
 use Rattle.log.specs.Sends.{applying}
-use Rattle.session.specs.Send.{fsyncOf}
-use Rattle.session.specs.Told.{Told}
-use Rattle.session.specs.Issue.{issues}
-use Rattle.session.specs.Effect.{Effect, note, issue, send, sends, issuing, perform, acceptedEffects, refusedEffects, effectsOf}
+use Rattle.session.specs.Effect.{Effect, note, issue, send, sends, perform, acceptedEffects, refusedEffects, effectsOf}
 use Rattle.session.specs.Step.{answerOf, effectsIn, step, mount, decodeModel}
 use Rattle.session.specs.Laws.Possible.{Sendable}
 use Rattle.session.specs.Laws.Ready.{Ready, needed-ready, ready-take, first-sent}
 use Rattle.session.specs.Laws.Call.{push-accepted}
-use Rattle.session.specs.Laws.Answer.{Damaged, byPush, bySync, damaged-why, push-passes, change-answered, issues-alters, sync-answered, link-answered}
+use Rattle.session.specs.Laws.Answer.{Damaged, byPush, bySync, damaged-why, push-passes, Changes, change-answered, sync-answered, link-answered}
 use Rattle.session.specs.Laws.Step.{step-holds}
 use Rattle.register.specs.Replay.{replay}
-use Rattle.register.specs.Register.{Register, begun, Acknowledged, isWaiting, isSent, chosen, sentIn, waitingIn, neededFor, acknowledged, sending, happen, happenAll}
+use Rattle.register.specs.Register.{Register, begun, Acknowledged, isWaiting, isSent, chosen, sentIn}
+use Rattle.register.specs.Feed.{feed, neededFor, acknowledged, sending}
+use Rattle.register.specs.Laws.Happen.{happen, happenAll}
 use Rattle.register.specs.History.{Is, Marked}
 use Rattle.register.specs.Run.{State, Moment, Run, next, Mounted, play}
 use Rattle.register.specs.Takes.{lostBy, lostRecords, fetchedBy, Distinct}
-use Rattle.register.specs.Claim.{AppliesInTurn, SentAt, Covers, Unpreceded, Answers, Demand, ownLosses}
+use Rattle.register.specs.Claim.{AppliesInTurn, SentAt, Covers, Unpreceded, Registered, Answers, Demand, ownLosses}
 use Rattle.register.specs.Laws.Fate.{Among, waits, no-both, or-true, send-sent, send-record}
 use Rattle.register.specs.Laws.Invariant.{Kept, Good}
 use Rattle.register.specs.Laws.Operation.{numbers-rise, in-map}
 use Rattle.register.specs.Laws.Kept.{server-replayed, view-replayed, waiting-same, sent-applies, waiting-logged}
-use Rattle.register.specs.Laws.Good.{good-applies, told-same}
+use Rattle.register.specs.Laws.Good.{good-applies}
+use Rattle.register.specs.Laws.Fed.{needed-same, operations-same}
+use Rattle.register.specs.Laws.Registered.{registered}
 use Rattle.register.specs.Laws.Precedes.{precedes-sent, unpreceded, needs-exact}
 use Rattle.register.specs.Laws.Since.{since-same, since-then, sent-since}
 use Rattle.register.specs.Laws.Fetch.{begun-fetched}
-use Rattle.register.specs.Laws.Take.{refused-none, none-left}
+use Rattle.register.specs.Laws.Take.{refused-none, none-left, takes-fetched, all-fetched}
 use Rattle.register.specs.Laws.Loss.{fetched-distinct, distinct-prefix, decoded-own}
 use Rattle.register.specs.Laws.Run.{Led, effect-kept, led-fed, lastModel, run-led, next-since, Met, run-met, Took, run-took, mounted-led, read-once}
 use Rattle.register.specs.Laws.Could.{could}
@@ -80,24 +82,7 @@ module _ (g : Geometry) where
           let all = ready-applies (ListN.take j (needed o w)) r x k (ready-take w (needed o w) j (needed-ready w o (waiting-in-order (g .objects) (g .blocks) (g .capacity) (x .log) (k .kept .sound .log)))) in
           omega arith
 
--- the operations that a call issues are added at the end, the first with the next number
-issued-operations : (p : ℕ) (os : List Operation) (r : Register) → (others : List Acknowledged) × (happenAll (issuing p os) r .operations ≡ r .operations ++ others)
-unfolding issuing happenAll happen
-issued-operations p [] r = ([], sym (append-nil (r .operations)))
-issued-operations p (o ∷ os) r =
-    let s = happen (issue p o) (happen (note p (operands o)) r) in
-    let rest = issued-operations p os s in
-    (acknowledged p o (happen (note p (operands o)) r) ∷ rest .0, rest .1 ∙ append-assoc (r .operations) (acknowledged p o (happen (note p (operands o)) r) ∷ []) (rest .0))
-
-first-issued : (p : ℕ) (o : Operation) (os : List Operation) (r : Register)
-    → (a : Acknowledged) × (others : List Acknowledged) × (happenAll (issuing p (o ∷ os)) r .operations ≡ r .operations ++ (a ∷ others)) × (a .recorded .sequence ≡ length (r .operations) + 1)
-unfolding issuing happenAll happen
-first-issued p o os r =
-    let s = happen (issue p o) (happen (note p (operands o)) r) in
-    let rest = issued-operations p os s in
-    let a = acknowledged p o (happen (note p (operands o)) r) in
-    (a, rest .0, rest .1 ∙ append-assoc (r .operations) (a ∷ []) (rest .0), refl)
-
+-- the effects of an accepted call
 pub accepted-effects : (g : Geometry) (c : Call) (x : Model) → answerOf g c x .returned ≡ 0 → effectsIn g c x ≡ acceptedEffects c (toldOf x)
 unfolding effectsOf
 accepted-effects g c x e = ap (λ (n : ℕ). cond (eqb n 0) (acceptedEffects c (toldOf x)) (refusedEffects c (answerOf g c x) (toldOf x))) e
@@ -141,53 +126,40 @@ module _ (g : Geometry) (v : Volume) where
       let w = waitingOf (x .log .slots) in
       let rise = numbers-rise 1 (r .operations) (l .good .kept .numbers) in
       let need : List·Memᴰ (a .recorded) (needed o w) =
-      subst (λ (z : List Record). List·Memᴰ (a .recorded) (needed o z)) (waiting-same g r x (l .good .kept)) (needs-exact r (l .good .timed) rise o (a .recorded) .1 (a, refl, c)) in
+      subst (λ (z : List Record). List·Memᴰ (a .recorded) z) (needed-same g r x (l .good) o) (needs-exact r (l .good .timed) rise o (a .recorded) .1 (a, refl, c)) in
       subst (λ (z : Register). SentAt z (a .recorded .sequence)) (sym (led-fed g v s x l (fsync p o k) ∙ ap (λ (es : List Effect). happenAll es r) (accepted-effects g (fsync p o k) x e)))
       (sends-send (needed o w) (happen (note p (o ∷ [])) r) a (c .acknowledged) (a .recorded) need refl)
 
   -- what a call answers
-  answers : (m : Moment) (r : Run) → Met g v m r → Answers g m
+  answers : (m : Moment) (r : Run) → Met g v m r → Answers (m .before .register) (m .call) (m .answer)
   unfolding answerOf
   answers m r k =
-      let x = k .model in
-      let s = m .before in
-      let told : (n : ℕ) → m .answer .returned ≡ n → answerOf g (m .call) x .returned ≡ n = λ n e. ap (λ (a : Answer). a .returned) (sym (k .answer)) ∙ e in
       record {
-        change = λ o os is e.
-            let c = change-answered g x (k .led .good .kept .sound) (m .call) (issues-alters _ (m .call) o os is) (told 0 e) in
-            let f = first-issued (c .program) (c .first) (c .others) (s .register) in
-            record {
-              first = f .0;
-              others = f .1;
-              added =
-                  ap (λ (z : Register). z .operations)
-                  (led-fed g v s x (k .led) (m .call) ∙ ap (λ (es : List Effect). happenAll es (s .register)) (accepted-effects g (m .call) x (told 0 e) ∙ c .effects ∙ ap (issuing (c .program)) (c .issued)))
-                  ∙ f .2;
-              told = ap (λ (a : Answer). a .results) (k .answer) ∙ c .results ∙ ap (λ (n : ℕ). n ∷ []) (k .led .good .kept .next ∙ sym (f .3));
-            };
-        issued = λ al e.
-            let c = change-answered g x (k .led .good .kept .sound) (m .call) al (told 0 e) in
-            (c .first, c .others, ap (λ (t : Told). issues t (m .call)) (told-same g (s .register) x (k .led .good)) ∙ c .issued);
-        sync = λ p o j is e. sync-told p o j is (told 0 e);
-        link = λ p o j is e. link-told p o j is (told Returned.linkLost e);
+        number = λ p d is e o os q. ap (λ (a : Answer). a .results) (same (change p d) is) ∙ made p d is e .results ∙ ap (λ (n : ℕ). n ∷ []) (k .led .good .kept .next);
+        some = λ p d is e.
+            let c = made p d is e in
+            (c .first, c .others, operations-same g (m .before .register) x (k .led .good) p d (by (change p d) is 0 e) ∙ c .issued);
+        sync = λ p o j is e.
+            ap (λ (a : Answer). a .results) (same (fsync p o j) is) ∙ sync-answered p o j x (by (fsync p o j) is 0 e) ∙ ap (λ (l : List Record). length l ∷ []) (sym (need o));
+        link = λ p o j is e.
+            let a = link-answered p o j x (by (fsync p o j) is Returned.linkLost e) in
+            (ap (λ (b : Answer). b .results) (same (fsync p o j) is) ∙ a .0, subst (λ (l : List Record). j < length l) (sym (need o)) (a .1));
       }
     where
-      waits : waitingOf (k .model .log .slots) ≡ waitingIn (m .before .register)
-      waits = sym (waiting-same g (m .before .register) (k .model) (k .led .good .kept))
+      x : Model
+      x = k .model
 
-      by : (p o j : ℕ) → m .call ≡ fsync p o j → m .answer ≡ fsyncOf p o j (k .model)
-      by p o j is = k .answer ∙ ap (λ (c : Call). answerOf g c (k .model)) is
+      same : (c : Call) → m .call ≡ c → m .answer ≡ answerOf g c (k .model)
+      same c is = k .answer ∙ ap (λ (d : Call). answerOf g d (k .model)) is
 
-      sync-told : (p o j : ℕ) → m .call ≡ fsync p o j → answerOf g (m .call) (k .model) .returned ≡ 0 → m .answer .results ≡ length (neededFor o (m .before .register)) ∷ []
-      sync-told p o j is e =
-          ap (λ (a : Answer). a .results) (by p o j is) ∙ sync-answered p o j (k .model) (ap (λ (c : Call). answerOf g c (k .model) .returned) (sym is) ∙ e)
-          ∙ ap (λ (w : List Record). length (needed o w) ∷ []) waits
+      by : (c : Call) → m .call ≡ c → (n : ℕ) → m .answer .returned ≡ n → answerOf g c (k .model) .returned ≡ n
+      by c is n e = ap (λ (a : Answer). a .returned) (sym (same c is)) ∙ e
 
-      link-told : (p o j : ℕ) → m .call ≡ fsync p o j → answerOf g (m .call) (k .model) .returned ≡ Returned.linkLost
-          → (m .answer .results ≡ j ∷ []) × (j < length (neededFor o (m .before .register)))
-      link-told p o j is e =
-          let a = link-answered p o j (k .model) (ap (λ (c : Call). answerOf g c (k .model) .returned) (sym is) ∙ e) in
-          (ap (λ (b : Answer). b .results) (by p o j is) ∙ a .0, subst (λ (w : List Record). j < length (needed o w)) waits (a .1))
+      need : (o : ℕ) → neededFor o (m .before .register) ≡ needed o (waitingOf (k .model .log .slots))
+      need o = needed-same g (m .before .register) (k .model) (k .led .good) o
+
+      made : (p : ℕ) (d : Change) → m .call ≡ change p d → m .answer .returned ≡ 0 → Changes g (change p d) (k .model)
+      made p d is e = change-answered g (k .model) (k .led .good .kept .sound) p d (by (change p d) is 0 e)
 
   -- the push of a waiting operation
   push-exact : (s : State) (x : Model) → Led g v s x → (a : Acknowledged) → Is a (s .register) → isWaiting a ≡ true
@@ -235,6 +207,14 @@ demand g s v m cs =
           sent-since (next g (n .call) (n .before) .register) r (t .since) (a .recorded .sequence)
           (subst (λ (d : Call). SentAt (next g d (n .before) .register) (a .recorded .sequence)) (sym is)
           (fsync-sends g v (n .before) (t .model) (t .led) p o k (ap (λ (d : Call). answerOf g d (t .model) .returned) (sym is) ∙ ap (λ (b : Answer). b .returned) (sym (t .answer)) ∙ e) a c));
+      registered = λ n h.
+          let t = met n h in
+          let r₀ = n .before .register in
+          let c = n .call in
+          let a = answerOf g c (t .model) in
+          let never : a .returned ≡ Returned.damaged → ⊥ = never-damaged g r₀ (t .model) (t .led .good) c in
+          subst (λ (b : Answer). Registered r₀ (feed c b r₀) c (n .answer)) (sym (step-holds g c (n .before .buffers) (t .model) (t .led .holds) .gives))
+          (subst (Registered r₀ (feed c a r₀) c) (sym (t .answer)) (registered g r₀ (t .model) (t .led .good) (t .led .known) c never));
       answered = λ n h. answers g v n (play g s v cs) (met n h);
       pushed = λ a ma wa. push-exact g v (play g s v cs .last) x l a ma wa;
       couldHaveBeenSent = λ n h set c.
@@ -248,6 +228,7 @@ demand g s v m cs =
       fetchedAll = λ p own e.
           let none = none-left p (x .log .slots) (refused-none g p own x (ap (λ (a : Answer). a .returned) (sym (step-holds g (takeLoss p own) (play g s v cs .last .buffers) x (l .holds) .gives)) ∙ e)) in
           sym (held p ∙ ap (λ (k : List Record). fetchedBy p (play g s v cs .moments) ++ map encode k) none ∙ append-nil (fetchedBy p (play g s v cs .moments)));
+      fetchedCount = λ p e. all-fetched (fetchedBy p (play g s v cs .moments)) (map encode (lossesOf p (x .log .slots))) (lostRecords p r) (held p) (sym e ∙ takes-fetched p (play g s v cs .moments));
       decoded = λ p b h. decoded-own (r .operations) p valid-all b (subst (λ (k : List (List ℕ)). List·Memᴰ b k) (sym (held p)) (Memᴰ·append-left (map encode (lossesOf p (x .log .slots))) h));
     }
   where

@@ -20,9 +20,11 @@ use Rattle.session.specs.Step.{answerOf, effectsIn, leavesOf, step}
 use Rattle.session.specs.Laws.Answer.{push-passes}
 use Rattle.session.specs.Laws.Ready.{Ready, first-sent}
 use Rattle.session.specs.Laws.Step.{step-holds}
-use Rattle.register.specs.Register.{Register, Acknowledged, isWaiting, isSent, isLost, chosen, sending, losing, happen, happenAll}
+use Rattle.register.specs.Register.{Register, Acknowledged, isWaiting, isSent, isLost, chosen, recordedOf}
+use Rattle.register.specs.Feed.{sending, losing}
+use Rattle.register.specs.Laws.Happen.{happen, happenAll}
 use Rattle.register.specs.Run.{State, Moment, Run, next, run, AllAccepted, CouldHaveBeenSent}
-use Rattle.register.specs.Claim.{recordedOf, ClosedSet}
+use Rattle.register.specs.Claim.{ClosedSet}
 use Rattle.register.specs.Laws.Fate.{Among, FateIs, waits, went, gone, fate-is, no-both, and-none, and-all, send-sent, send-record, lose-sent, lose-record}
 use Rattle.register.specs.Laws.Pick.{map-in}
 use Rattle.register.specs.Laws.Send.{rising-unique}
@@ -41,7 +43,7 @@ sendingAll (q ∷ l) a = sendingAll l (sending (q .sequence) a)
 abbrev pub hasNumber : ℕ → List Record → Bool
 hasNumber n l = any (λ q. eqb n (q .sequence)) l
 
-all-record : (l : List Record) (a : Acknowledged) → recordedOf (sendingAll l a) ≡ recordedOf a
+pub all-record : (l : List Record) (a : Acknowledged) → recordedOf (sendingAll l a) ≡ recordedOf a
 unfolding sendingAll
 all-record [] a = refl
 all-record (q ∷ l) a = all-record l (sending (q .sequence) a) ∙ send-record (q .sequence) a
@@ -53,7 +55,7 @@ all-sent (q ∷ l) a =
     all-sent l (sending (q .sequence) a) ∙ (λ i. send-sent (q .sequence) a i || hasNumber (send-record (q .sequence) a i .sequence) l)
     ∙ or-assoc (isSent a) (eqb (a .recorded .sequence) (q .sequence)) (hasNumber (a .recorded .sequence) l)
 
-map-map : (f h : Acknowledged → Acknowledged) (l : List Acknowledged) → map f (map h l) ≡ map (λ a. f (h a)) l
+pub map-map : (f h : Acknowledged → Acknowledged) (l : List Acknowledged) → map f (map h l) ≡ map (λ a. f (h a)) l
 map-map f h [] = refl
 map-map f h (a ∷ l) = ap (λ (k : List Acknowledged). f (h a) ∷ k) (map-map f h l)
 
@@ -61,7 +63,7 @@ same-map : (l : List Record) (q : Record) (ops : List Acknowledged) → map (sen
 unfolding sendingAll
 same-map l q ops = map-map (sendingAll l) (sending (q .sequence)) ops
 
-no-map : (ops : List Acknowledged) → map (sendingAll []) ops ≡ ops
+pub no-map : (ops : List Acknowledged) → map (sendingAll []) ops ≡ ops
 unfolding sendingAll
 no-map [] = refl
 no-map (a ∷ l) = ap (λ (k : List Acknowledged). a ∷ k) (no-map l)
@@ -80,7 +82,7 @@ number-chosen f l rise a m = go (f a) refl (hasNumber (a .recorded .sequence) (c
     go false e false h = h ∙ sym e
 
 -- the effects of an accepted push, and of a cut
-push-effects : (g : Geometry) (q : ℕ) (x : Model) → answerOf g (push q) x .returned ≡ 0 → effectsIn g (push q) x ≡ send q ∷ []
+pub push-effects : (g : Geometry) (q : ℕ) (x : Model) → answerOf g (push q) x .returned ≡ 0 → effectsIn g (push q) x ≡ send q ∷ []
 unfolding effectsOf
 push-effects g q x e = ap (λ (n : ℕ). cond (eqb n 0) (send q ∷ []) []) e
 

@@ -7,19 +7,22 @@ use mathlib.Core.List.{List, [], _∷_, _++_, map, List·Memᴰ, List·Memᴰ·h
 use mathlib.Core.Bool.{Bool, true, false, _&&_, cond, false≢true}
 use mathlib.Core.Option.{Option, none, some}
 use lib.ListN.{length, take, drop, getD, take-append-drop}
+use lib.Seq.{take-append-le, take-length}
 use lib.Dec.{eqb}
 use borrow.Author.Tests.{ne-eqb}
 use Rattle.session.specs.Told.{Told}
 use Rattle.session.specs.Laws.Refusal.{same-number}
 use Rattle.returned.specs.Returned
 use Rattle.record.specs.Operation.{Record}
+use Rattle.record.specs.Decode.{decodeRecord}
+use Rattle.record.specs.Laws.Decode.{decode-sound, decode-encoded}
 use Rattle.volume_tree.specs.Volume.{Volume}
 use Rattle.volume_tree.specs.Stored.{encodeVolume, decodeVolume}
 use Rattle.volume_apply.specs.Apply.{applies, apply}
 use Rattle.log.specs.Order.{any, before, needed, preceded, PrecedesIn}
 use Rattle.log.specs.Laws.Order.{Rising, direct-decides, preceded-exact}
 use Rattle.log.specs.Change.{waitingOf}
-use Rattle.log.specs.Laws.Change.{waiting-at}
+use Rattle.log.specs.Laws.Change.{waiting-at, waiting-in-order}
 use Rattle.session.specs.Class
 use Rattle.session.specs.Call.{Geometry, Buffers, Call, question, change, link, recovery, list, read, push, fsync, cut, Answer, answer, inRange, lengthsFit}
 use Rattle.session.specs.Call
@@ -30,14 +33,17 @@ use Rattle.session.specs.Effect.{Effect, note, discard, sends, performAll, acce
 use Rattle.session.specs.Step.{Stores, answerOf, effectsIn, leavesOf, turnedDown, encodeModel, decodeModel, onModel, step, mount}
 use Rattle.session.specs.Laws.Call.{push-accepted, Synced, whole, partly, broken, synced-is, sync-damaged}
 use Rattle.session.specs.Laws.Answer.{refused-plain, push-passes}
-use Rattle.session.specs.Laws.Step.{model-read, step-holds}
+use Rattle.session.specs.Laws.Step.{Holds, model-read, step-holds}
+use Rattle.session.specs.Laws.Ready.{Ready, needed-ready, ready-take}
 use Rattle.register.specs.Replay.{replay}
-use Rattle.register.specs.Register.{Register, begun, happenAll}
+use Rattle.register.specs.Register.{Register, begun, recordedOf}
+use Rattle.register.specs.Laws.Happen.{happenAll}
 use Rattle.register.specs.Run.{State, Moment, next, run, Mounted, play}
-use Rattle.register.specs.Claim.{AppliesInTurn, recordedOf, Breaks, byCut, byFsync, Broken, Determined, Unchanged, Stopped, Demands}
+use Rattle.register.specs.Claim.{AppliesInTurn, Breaks, byCut, byFsync, Broken, Determined, Unchanged, Stopped, Demands}
 use Rattle.register.specs.Laws.Operation.{numbers-rise}
 use Rattle.register.specs.Laws.Loss.{AllValid, Settled, discard-settled, same-lost-sent, same-sent-lost, same-records-sent, same-sent-records}
 use Rattle.register.specs.Laws.Run.{Led, led-fed, run-led, lastModel, run-met, mounted-led}
+use Rattle.register.specs.Laws.Leaves.{leftOf, sends-leave, push-leaves}
 use Rattle.register.specs.Laws.Claim.{demand}
 
 -- the last call of a run is the one that left the last state
@@ -179,7 +185,7 @@ no-effects g c x n l d = ap (λ (b : Bool). cond b (acceptedEffects c w) (refuse
     none (recovery p t) is a l d = refl
 
 pub refused-unchanged : (g : Geometry) (c : Call) (s : Buffers) → (step g c s .gives .returned ≡ 0 → ⊥) → (step g c s .gives .returned ≡ Returned.linkLost → ⊥)
-    → (step g c s .gives .returned ≡ Returned.damaged → (p o k : ℕ) → c ≡ fsync p o k → ⊥) → Unchanged c s (step g c s)
+    → (step g c s .gives .returned ≡ Returned.damaged → (x : Model) → Stores g s x → (p o k : ℕ) → c ≡ fsync p o k → ⊥) → Unchanged c s (step g c s)
 unfolding step leavesOf performAll
 refused-unchanged g c s n l d = go (inRange g) (lengthsFit g s) (decodeModel g s) refl refl refl n l d
   where
@@ -189,16 +195,18 @@ refused-unchanged g c s n l d = go (inRange g) (lengthsFit g s) (decodeModel g s
     go : (r f : Bool) (e : Option Model) → inRange g ≡ r → lengthsFit g s ≡ f → decodeModel g s ≡ e
         → (cond (r && f) (onModel g c s e) (turnedDown Returned.wrongBuffer c s) .gives .returned ≡ 0 → ⊥)
         → (cond (r && f) (onModel g c s e) (turnedDown Returned.wrongBuffer c s) .gives .returned ≡ Returned.linkLost → ⊥)
-        → (cond (r && f) (onModel g c s e) (turnedDown Returned.wrongBuffer c s) .gives .returned ≡ Returned.damaged → (p o k : ℕ) → c ≡ fsync p o k → ⊥)
+        → (cond (r && f) (onModel g c s e) (turnedDown Returned.wrongBuffer c s) .gives .returned ≡ Returned.damaged → (x : Model) → Stores g s x → (p o k : ℕ) → c ≡ fsync p o k → ⊥)
         → Unchanged c s (cond (r && f) (onModel g c s e) (turnedDown Returned.wrongBuffer c s))
     go false f e hr hf he n l d = plain Returned.wrongBuffer
     go true false e hr hf he n l d = plain Returned.wrongBuffer
     go true true none hr hf he n l d = plain Returned.damaged
     go true true (some x) hr hf he n l d =
-        let h = model-read g s x (record { range = hr; lengths = hf; read = he }) in
-        let p = refused-plain g x c n l d in
+        let st : Stores g s x = record { range = hr; lengths = hf; read = he } in
+        let h = model-read g s x st in
+        let second : answerOf g c x .returned ≡ Returned.damaged → (p o k : ℕ) → c ≡ fsync p o k → ⊥ = λ e. d e x st in
+        let p = refused-plain g x c n l second in
         record {
-          buffers = ap (λ (es : List Effect). encodeModel g (performAll es x)) (no-effects g c x n l d) ∙ h .stored;
+          buffers = ap (λ (es : List Effect). encodeModel g (performAll es x)) (no-effects g c x n l second) ∙ h .stored;
           results = p .results;
           own = p .own;
         }
@@ -261,13 +269,31 @@ take-short zero l = omega arith
 take-short (suc k) [] = omega arith
 take-short (suc k) (r ∷ l) = let h = take-short k l in omega arith
 
+-- the effects of an fsync that stops: the sends of as many as it reports
+stopped-effects : (g : Geometry) (p o k j : ℕ) (x : Model) → answerOf g (fsync p o k) x .returned ≡ Returned.damaged → answerOf g (fsync p o k) x .results ≡ j ∷ []
+    → effectsIn g (fsync p o k) x ≡ sends (take j (needed o (waitingOf (x .log .slots))))
+unfolding effectsOf
+stopped-effects g p o k j x e told = (λ i. cond (eqb (e i) 0) whole (cond (eqb (e i) 17) cutOff (cond (eqb (e i) 2) (sends (take (getD (told i) 0 0) need)) [])))
+  where
+    need : List Record
+    need = needed o (waitingOf (x .log .slots))
+
+    whole : List Effect
+    whole = note p (o ∷ []) ∷ sends (needed o (waitingOf (x .log .slots)))
+
+    cutOff : List Effect
+    cutOff = note p (o ∷ []) ∷ (sends (take k (needed o (waitingOf (x .log .slots)))) ++ (discard ∷ []))
+
 pub stopped-before : (g : Geometry) (s : Buffers) (x : Model) → Stores g s x → (p o k : ℕ) → step g (fsync p o k) s .gives .returned ≡ Returned.damaged
-    → Stopped k (x .server) (needed o (waitingOf (x .log .slots))) (step g (fsync p o k) s .gives)
-unfolding answerOf
+    → Stopped g k x (needed o (waitingOf (x .log .slots))) (step g (fsync p o k) s)
+unfolding answerOf leavesOf
 stopped-before g s x st p o k e = go (synced-is k need (x .server))
   where
     need : List Record
     need = needed o (waitingOf (x .log .slots))
+
+    held : Holds g s x
+    held = model-read g s x st
 
     is : step g (fsync p o k) s .gives ≡ fsyncOf p o k x
     is = step-holds g (fsync p o k) s x (model-read g s x st) .gives
@@ -275,22 +301,37 @@ stopped-before g s x st p o k e = go (synced-is k need (x .server))
     same : step g (fsync p o k) s .gives ≡ syncAnswer k need (x .server)
     same = is ∙ sync-damaged p o k x (ap (λ (a : Answer). a .returned) (sym is) ∙ e) .answer
 
-    go : Synced k need (x .server) (syncAnswer k need (x .server)) → Stopped k (x .server) need (step g (fsync p o k) s .gives)
+    -- what is left where those before the bad one are the first of what it needs
+    left : (before after : List Record) (bad : Record) → need ≡ before ++ (bad ∷ after) → AppliesInTurn (x .server) before → step g (fsync p o k) s .gives .results ≡ length before ∷ []
+        → step g (fsync p o k) s .leaves ≡ encodeModel g (leftOf before x)
+    left before after bad among turn told =
+        let w = waitingOf (x .log .slots) in
+        let first : take (length before) need ≡ before = ap (take (length before)) among ∙ take-append-le (length before) before (bad ∷ after) (omega arith) ∙ take-length before in
+        let ready = needed-ready w o (waiting-in-order (g .objects) (g .blocks) (g .capacity) (x .log) (held .sound .log)) in
+        let es = stopped-effects g p o k (length before) x (ap (λ (a : Answer). a .returned) (sym is) ∙ e) (ap (λ (a : Answer). a .results) (sym is) ∙ told) ∙ ap sends first in
+        sym (step-holds g (fsync p o k) s x held .holds .stored)
+        ∙ ap (λ (l : List Effect). encodeModel g (performAll l x)) es
+        ∙ ap (encodeModel g) (sends-leave g before x (held .sound) (subst (Ready w) first (ready-take w need (length before) ready)) turn)
+
+    go : Synced k need (x .server) (syncAnswer k need (x .server)) → Stopped g k x need (step g (fsync p o k) s)
     go (whole le all z) = let y : _≡_ {A = ℕ} 0 2 = same-number (same ∙ z) e in absurd (omega arith)
     go (partly lt all z) = let y : _≡_ {A = ℕ} 17 2 = same-number (same ∙ z) e in absurd (omega arith)
     go (broken lt z) =
         let t = split (take k need) (x .server) lt in
         let n = t .count in
         let short = take-short k need in
+        let among = sym (take-append-drop k need) ∙ ap (λ (y : List Record). y ++ drop k need) (t .among) ∙ append-assoc (t .before) (t .bad ∷ t .after) (drop k need) in
+        let told = ap (λ (b : Answer). b .results) (same ∙ z) ∙ ap (λ (j : ℕ). j ∷ []) (sym n) in
         record {
           before = t .before;
           bad = t .bad;
           after = t .after ++ drop k need;
-          among = sym (take-append-drop k need) ∙ ap (λ (y : List Record). y ++ drop k need) (t .among) ∙ append-assoc (t .before) (t .bad ∷ t .after) (drop k need);
+          among = among;
           carried = omega arith;
           applied = t .applied;
           fails = t .fails;
-          told = ap (λ (b : Answer). b .results) (same ∙ z) ∙ ap (λ (j : ℕ). j ∷ []) (sym n);
+          told = told;
+          leaves = left (t .before) (t .after ++ drop k need) (t .bad) among (t .applied) told;
         }
 
 -- the demands
@@ -302,4 +343,6 @@ demands =
       pushed = λ g s x st q m fit. push-any g s x st q m fit;
       unchanged = λ g c s n l d. refused-unchanged g c s n l d;
       stopped = λ g s x st p o k e. stopped-before g s x st p o k e;
+      sends = λ g s x st q e. push-leaves g s x st q e;
+      read = λ s q. ((λ e. decode-sound s q e), λ h. ap decodeRecord (h .1 .1) ∙ decode-encoded q (h .1 .0) (h .0));
     }

@@ -22,10 +22,11 @@ use Rattle.log.specs.Laws.Change.{discard-waiting, dependsOn, discard-marks, re
 use Rattle.log.specs.Laws.Chain.{Chain, NotedFrom, noted-slot}
 use Rattle.log.specs.Laws.Partition.{picked}
 use Rattle.session.specs.Effect.{note, issue, send, discard, take, renew}
-use Rattle.register.specs.Register.{Register, Fate, lost, Acknowledged, Touch, Renewal, isWaiting, fated, sending, losing, acknowledged, happen}
+use Rattle.register.specs.Register.{Register, Fate, lost, Acknowledged, Touch, Renewal, isWaiting, fated, recordedOf}
+use Rattle.register.specs.Feed.{enter, sending, losing, acknowledged}
+use Rattle.register.specs.Laws.Happen.{happen}
 use Rattle.register.specs.History.{Reaches, Depends, issuer, caller, Marked}
-use Rattle.register.specs.Claim.{recordedOf}
-use Rattle.register.specs.Laws.Fate.{Among, no-both, send-by, send-record, send-issued, send-waiting, send-fate, lose-record, lose-issued}
+use Rattle.register.specs.Laws.Fate.{Among, no-both, send-by, send-record, send-issued, send-waiting, send-fate, lose-by, lose-record, lose-issued}
 use Rattle.register.specs.Laws.Invariant.{Timed, NumberedFrom}
 use Rattle.register.specs.Laws.Pick.{map-in}
 use Rattle.register.specs.Laws.Send.{there-picked, rising-unique}
@@ -39,7 +40,7 @@ pub record Depended (r : Register) (l : Log) : Type 0 where
       → (holds (s .dependents) p ≡ true) ↔ Depends r p a
   pub marks : (p : ℕ) → p < 32 → (holds (l .head .marks) p ≡ true) ↔ Marked r p
 
-mem-end : {A : Type 0} (l : List A) (a : A) → List·Memᴰ a (l ++ (a ∷ []))
+pub mem-end : {A : Type 0} (l : List A) (a : A) → List·Memᴰ a (l ++ (a ∷ []))
 mem-end l a = Memᴰ·append-right l (List·Memᴰ·head refl)
 
 mem-by : {A : Type 0} {l k : List A} → l ≡ k → {a : A} → List·Memᴰ a l → List·Memᴰ a k
@@ -60,6 +61,13 @@ same-renamed r s so st sc sr =
       calls = sc;
       renewals = sr;
     }
+
+-- one more call with its operands
+pub note-renamed : (r : Register) (p : ℕ) (ops : List ℕ) → Renamed r (enter p ops r) (λ a. a)
+note-renamed r p ops =
+    let t : Touch = record { program = p; touched = ops; time = r .happened } in
+    same-renamed r (enter p ops r) refl (λ u m. Memᴰ·append-left (t ∷ []) m)
+    (λ u m. ⊎-elim (λ (k : List·Memᴰ u (r .touches)). inl k) (λ (k : List·Memᴰ u (t ∷ [])). inr (ap (λ (v : Touch). v .time) (List·Memᴰ·eq-of-singleton k))) (List·Memᴰ·append-cases (r .touches) m)) (λ z m. m)
 
 module _ (r : Register) (timed : Timed (r .operations) (r .happened)) (known : Recalled r (r .happened)) (l : Log) (d : Depended r l) where
   module _ (s : Register) (h : Acknowledged → Acknowledged) (n : Renamed r s h) where
@@ -101,9 +109,7 @@ module _ (r : Register) (timed : Timed (r .operations) (r .happened)) (known : R
         s = happen (note p ops) r
 
         n : Renamed r s (λ a. a)
-        n =
-            same-renamed r s refl (λ u m. Memᴰ·append-left (t ∷ []) m)
-            (λ u m. ⊎-elim (λ (k : List·Memᴰ u (r .touches)). inl k) (λ (k : List·Memᴰ u (t ∷ [])). inr (ap (λ (v : Touch). v .time) (List·Memᴰ·eq-of-singleton k))) (List·Memᴰ·append-cases (r .touches) m)) (λ z m. m)
+        n = note-renamed r p ops
 
         the-call : (q : ℕ) (a : Acknowledged) → Called r s q a → (p ≡ q) × Reaches r a t
         the-call q a c =
@@ -268,15 +274,15 @@ module _ (r : Register) (timed : Timed (r .operations) (r .happened)) (known : R
         s : Register
         s = happen discard r
 
-        lose-by : (a : Acknowledged) (b : Bool) → isWaiting a ≡ b → losing (r .happened) a .fate ≡ cond b (fated (lost (r .happened)) a) a .fate
-        lose-by a b e = ap (λ (t : Bool). cond t (fated (lost (r .happened)) a) a .fate) e
+        fate-by : (a : Acknowledged) (b : Bool) → isWaiting a ≡ b → losing (r .happened) a .fate ≡ cond b (fated (lost (r .happened)) a) a .fate
+        fate-by a b e = ap (λ (c : Acknowledged). c .fate) (lose-by (r .happened) a b e)
 
         newly : (a : Acknowledged) (u : ℕ) → losing (r .happened) a .fate ≡ lost u → (a .fate ≡ lost u) ⊎ ((isWaiting a ≡ true) × (u ≡ r .happened))
         newly a u f = go (isWaiting a) refl
           where
             go : (b : Bool) → isWaiting a ≡ b → (a .fate ≡ lost u) ⊎ ((isWaiting a ≡ true) × (u ≡ r .happened))
-            go true e = let z : lost (r .happened) ≡ lost u = sym (lose-by a true e) ∙ f in inr (e, cc)
-            go false e = inl (sym (lose-by a false e) ∙ f)
+            go true e = let z : lost (r .happened) ≡ lost u = sym (fate-by a true e) ∙ f in inr (e, cc)
+            go false e = inl (sym (fate-by a false e) ∙ f)
 
         n : Renamed r s (losing (r .happened))
         n =
@@ -285,7 +291,7 @@ module _ (r : Register) (timed : Timed (r .operations) (r .happened)) (known : R
               from = λ b m. inl (map-in recordedOf (losing (r .happened)) (r .operations) b m);
               recorded = lose-record (r .happened);
               issued = lose-issued (r .happened);
-              still = λ a u m f. lose-by a false (ap (λ (k : Fate). isWaiting (fated k a)) f) ∙ f;
+              still = λ a u m f. fate-by a false (ap (λ (k : Fate). isWaiting (fated k a)) f) ∙ f;
               newly = newly;
               touches = λ t m. m;
               calls = λ t m. inl m;
@@ -301,7 +307,7 @@ module _ (r : Register) (timed : Timed (r .operations) (r .happened)) (known : R
               on = losing (r .happened) (w .who);
               acknowledged = n .to (w .who) (w .among);
               time = r .happened;
-              discarded = lose-by (w .who) true (w .waiting);
+              discarded = fate-by (w .who) true (w .waiting);
               renewed = λ z mz e. known .renewals z mz;
               depended = slot-kept s (losing (r .happened)) n (λ t m. m) x (w .who) (y .1) (both .0) (w .among) (w .waiting) (w .recorded) p lt .0 (both .1);
             }

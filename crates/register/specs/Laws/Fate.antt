@@ -5,9 +5,9 @@ use mathlib.Core.Path.{_≡_, refl, sym, ap, _∙_}
 use mathlib.Core.List.{List, List·Memᴰ}
 use mathlib.Core.Bool.{Bool, true, false, not, _&&_, _||_, cond, or-false}
 use lib.Dec.{eqb}
-use Rattle.register.specs.Register.{Fate, waiting, sent, lost, Acknowledged, isWaiting, isSent, isLost, sending, losing, fated}
+use Rattle.register.specs.Register.{Fate, waiting, sent, lost, Acknowledged, isWaiting, isSent, isLost, fated, recordedOf}
+use Rattle.register.specs.Feed.{sending, losing}
 use Rattle.register.specs.History.{goneBy}
-use Rattle.register.specs.Claim.{recordedOf}
 
 abbrev pub Among : Acknowledged → List Acknowledged → Type 0
 Among a l = List·Memᴰ a l
@@ -144,6 +144,9 @@ module _ (q : ℕ) (a : Acknowledged) where
 
 -- an operation after all waiting ones are lost
 module _ (t : ℕ) (a : Acknowledged) where
+  pub lose-by : (b : Bool) → isWaiting a ≡ b → losing t a ≡ cond b (fated (lost t) a) a
+  lose-by b e = ap (λ (c : Bool). cond c (fated (lost t) a) a) e
+
   pub lose-record : recordedOf (losing t a) ≡ recordedOf a
   lose-record = go (isWaiting a)
     where

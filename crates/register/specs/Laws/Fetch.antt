@@ -20,9 +20,10 @@ use Rattle.session.specs.Call.{Geometry}
 use Rattle.session.specs.Model.{Model}
 use Rattle.session.specs.Effect.{Effect, note, issue, send, discard, take, renew, sentFound, perform, performAll}
 use Rattle.session.specs.Laws.Possible.{Possible, AllPossible}
-use Rattle.register.specs.Register.{Register, Acknowledged, acknowledged, isWaiting, isSent, isLost, chosen, sending, losing, happen, happenAll}
+use Rattle.register.specs.Register.{Register, Acknowledged, isWaiting, isSent, isLost, chosen, recordedOf}
+use Rattle.register.specs.Feed.{acknowledged, sending, losing}
+use Rattle.register.specs.Laws.Happen.{happen, happenAll}
 use Rattle.register.specs.Takes.{lostBy}
-use Rattle.register.specs.Claim.{recordedOf}
 use Rattle.register.specs.Laws.Fate.{Among, no-both, waits-not-sent, send-record, send-lost, send-waiting, lose-record, lose-waiting, lose-lost}
 use Rattle.register.specs.Laws.Invariant.{Good}
 use Rattle.register.specs.Laws.Pick.{map-in}

@@ -13,17 +13,18 @@ use Rattle.log.specs.Slot.{emptyLog}
 use Rattle.log.specs.Change.{waitingOf}
 use Rattle.log.specs.Laws.Change.{at-waiting, noted-waiting, taken-waiting}
 use Rattle.log.specs.Laws.Partition.{applyEach, EachApplies, Closed}
-use Rattle.session.specs.Call.{Geometry, Call, Answer}
-use Rattle.session.specs.Model.{Model, toldOf}
-use Rattle.session.specs.Effect.{Effect, note, issue, send, discard, take, renew, sentFound, perform, performAll, effectsOf}
+use Rattle.session.specs.Call.{Geometry}
+use Rattle.session.specs.Model.{Model}
+use Rattle.session.specs.Effect.{Effect, note, issue, send, discard, take, renew, sentFound, perform, performAll}
 use Rattle.session.specs.Laws.Possible.{Sound, Sendable, Possible, AllPossible}
-use Rattle.register.specs.Register.{Register, Acknowledged, isWaiting, isSent, begun, toldBy, sending, acknowledged, withOperations, later, happen, happenAll}
-use Rattle.register.specs.Claim.{recordedOf}
+use Rattle.register.specs.Register.{Register, Acknowledged, isWaiting, isSent, begun, later, recordedOf}
+use Rattle.register.specs.Feed.{acknowledged, sendOne}
+use Rattle.register.specs.Laws.Happen.{happen, happenAll}
 use Rattle.register.specs.Laws.Fate.{isLive}
 use Rattle.register.specs.Laws.Invariant.{Good}
 use Rattle.register.specs.Laws.Operation.{numbers-rise, numbers-below}
 use Rattle.register.specs.Laws.Pick.{picked-none}
-use Rattle.register.specs.Laws.Kept.{view-replayed, waiting-same, Free, free-of, free-applies, same-kept, send-kept, cut-kept, issue-kept}
+use Rattle.register.specs.Laws.Kept.{Free, free-of, free-applies, same-kept, send-kept, cut-kept, issue-kept}
 use Rattle.register.specs.Laws.Timed.{timed-on, timed-send, timed-cut, timed-issue}
 
 -- a register without operations goes with an empty log
@@ -60,21 +61,16 @@ module _ (g : Geometry) (r : Register) (x : Model) (k : Good g r x) where
       let w = free-of g r x (k .kept) q m none in
       subst (λ (z : Record). applies (x .server) (z .operation) ≡ true) (w .1) (free-applies g r x (k .kept) (w .0) (w .2))
 
-  -- the register tells what the model tells, and so the effects of a call
-  pub told-same : toldBy r ≡ toldOf x
-  told-same = λ i. record { view = view-replayed g r x (k .kept) i; waiting = waiting-same g r x (k .kept) i }
-
-  pub feed-effects : (c : Call) (a : Answer) → effectsOf c a (toldBy r) ≡ effectsOf c a (toldOf x)
-  feed-effects c a = ap (effectsOf c a) told-same
-
   -- an effect that sends, issues and discards nothing
   same-good : (y : Model) → Sound g y → y .server ≡ x .server → y .view ≡ x .view → y .log .head .next ≡ x .log .head .next
-      → waitingOf (y .log .slots) ≡ waitingOf (x .log .slots) → Good g (later r) y
-  same-good y s es ev en ew = record { kept = same-kept g r x (k .kept) y s es ev en ew; timed = timed-on (r .operations) (r .happened) (k .timed) }
+      → waitingOf (y .log .slots) ≡ waitingOf (x .log .slots) → (Good g r y) × Good g (later r) y
+  same-good y s es ev en ew =
+      let kept = same-kept g r x (k .kept) y s es ev en ew in
+      (record { kept = kept; timed = k .timed }, record { kept = kept; timed = timed-on (r .operations) (r .happened) (k .timed) })
 
   -- the send of a waiting operation that no waiting one directly precedes
   free-good : (a : Acknowledged) → Free (r .operations) a → Sound g (sentFound (some (a .recorded)) x)
-      → Good g (later (withOperations (map (sending (a .recorded .sequence)) (r .operations)) r)) (sentFound (some (a .recorded)) x)
+      → Good g (sendOne (a .recorded .sequence) r) (sentFound (some (a .recorded)) x)
   free-good a f s =
       record { kept = send-kept g r x (k .kept) a f s; timed = timed-send (r .operations) (r .happened) (k .timed) (numbers-rise 1 (r .operations) (k .kept .numbers)) a f }
 
@@ -89,7 +85,7 @@ module _ (g : Geometry) (r : Register) (x : Model) (k : Good g r x) where
   -- register and model go together after each effect that may take place
   pub effect-good : (e : Effect) → Possible g x e → Sound g (perform e x) → Good g (happen e r) (perform e x)
   unfolding perform happen
-  effect-good (note p ops) h s = same-good (perform (note p ops) x) s refl refl refl (noted-waiting p ops (x .log .slots))
+  effect-good (note p ops) h s = same-good (perform (note p ops) x) s refl refl refl (noted-waiting p ops (x .log .slots)) .1
   effect-good (issue p o) h s =
       record {
         kept = issue-kept g r x (k .kept) p o h s;
@@ -97,8 +93,8 @@ module _ (g : Geometry) (r : Register) (x : Model) (k : Good g r x) where
       }
   effect-good (send q) h s = send-good q (h .0) (h .1) s
   effect-good discard h s = record { kept = cut-kept g r x (k .kept) (r .happened) s; timed = timed-cut (r .operations) (r .happened) (k .timed) }
-  effect-good (take p) h s = same-good (perform (take p) x) s refl refl refl (taken-waiting p (x .log))
-  effect-good (renew p) h s = same-good (perform (renew p) x) s refl refl refl refl
+  effect-good (take p) h s = same-good (perform (take p) x) s refl refl refl (taken-waiting p (x .log)) .0
+  effect-good (renew p) h s = same-good (perform (renew p) x) s refl refl refl refl .1
 
 -- and after each list of effects of which each may take place where those before it have
 pub good-all : (g : Geometry) (es : List Effect) (r : Register) (x : Model) → Good g r x → AllPossible g x es

@@ -11,9 +11,8 @@ use Rattle.log.specs.Laws.Partition.{applyEach, EachApplies, AllFit, picked, Cl
 use Rattle.session.specs.Call.{Geometry}
 use Rattle.session.specs.Model.{Model}
 use Rattle.session.specs.Laws.Possible.{Sound}
-use Rattle.register.specs.Register.{lost, Acknowledged, Register, isWaiting, isSent}
+use Rattle.register.specs.Register.{lost, Acknowledged, Register, isWaiting, isSent, recordedOf}
 use Rattle.register.specs.History.{directly}
-use Rattle.register.specs.Claim.{recordedOf}
 use Rattle.register.specs.Laws.Fate.{Among, isLive}
 
 -- the operations are "numbered on from 1"

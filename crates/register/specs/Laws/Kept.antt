@@ -28,8 +28,9 @@ use Rattle.session.specs.Effect.{sentFound}
 use Rattle.session.specs.Laws.Possible.{Sound, Issuable}
 use Rattle.session.specs.Laws.Issue.{record-good}
 use Rattle.register.specs.Replay.{replay}
-use Rattle.register.specs.Register.{Register, Acknowledged, isWaiting, isSent, sentIn, waitingIn, viewOf, sending, losing, acknowledged, withOperations, later}
-use Rattle.register.specs.Claim.{AppliesInTurn, recordedOf}
+use Rattle.register.specs.Register.{Register, Acknowledged, isWaiting, isSent, sentIn, waitingIn, viewOf, withOperations, later, recordedOf}
+use Rattle.register.specs.Feed.{sending, losing, acknowledged}
+use Rattle.register.specs.Claim.{AppliesInTurn}
 use Rattle.register.specs.Laws.Fate.{Among, isLive, waits-not-sent, sent-live, waiting-live, live-waits, send-record, send-sent, send-waiting, send-live, lose-record, lose-waiting, lose-sent, lose-live}
 use Rattle.register.specs.Laws.Invariant.{Kept}
 use Rattle.register.specs.Laws.Operation.{numbers-rise, numbers-map, numbers-end, map-record, length-map, record-in, chosen-picked, waits-of}

@@ -18,7 +18,8 @@ use Rattle.session.specs.Call.{Geometry}
 use Rattle.session.specs.Model.{Model}
 use Rattle.session.specs.Effect.{Effect, note, issue, send, discard, take, renew, sentFound, perform, performAll}
 use Rattle.session.specs.Laws.Possible.{Possible, AllPossible}
-use Rattle.register.specs.Register.{Register, Touch, Renewal, begun, happen, happenAll}
+use Rattle.register.specs.Register.{Register, Touch, Renewal, begun}
+use Rattle.register.specs.Laws.Happen.{happen, happenAll}
 use Rattle.register.specs.Laws.Fate.{no-both}
 use Rattle.register.specs.Laws.Invariant.{Good}
 use Rattle.register.specs.Laws.Reach.{Recalled}
@@ -49,9 +50,9 @@ effect-recalled r k e = go e
           renewals = past-renewal;
         }
     go (issue p o) = record { touches = past-touch; renewals = past-renewal }
-    go (send q) = record { touches = past-touch; renewals = past-renewal }
+    go (send q) = record { touches = k .touches; renewals = k .renewals }
     go discard = record { touches = past-touch; renewals = past-renewal }
-    go (take p) = record { touches = past-touch; renewals = past-renewal }
+    go (take p) = k
     go (renew p) =
         record {
           touches = past-touch;

@@ -17,9 +17,10 @@ use Rattle.log.specs.Order.{any}
 use Rattle.log.specs.Laws.Order.{Rising, InOrder, any-in, in-any}
 use Rattle.log.specs.Laws.Partition.{picked}
 use Rattle.session.specs.Effect.{Effect, discard}
-use Rattle.register.specs.Register.{Register, Acknowledged, isWaiting, isSent, isLost, chosen, losing, happen, happenAll}
+use Rattle.register.specs.Register.{Register, Acknowledged, isWaiting, isSent, isLost, chosen, recordedOf}
+use Rattle.register.specs.Feed.{losing}
+use Rattle.register.specs.Laws.Happen.{happen, happenAll}
 use Rattle.register.specs.Takes.{lostBy, Distinct}
-use Rattle.register.specs.Claim.{recordedOf}
 use Rattle.register.specs.Laws.Fate.{Among, FateIs, waits, went, gone, fate-is, no-both, and-all, lose-waiting}
 use Rattle.register.specs.Laws.Pick.{picked-same, map-in}
 use Rattle.register.specs.Laws.Send.{rising-unique, there-picked}

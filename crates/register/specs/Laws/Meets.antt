@@ -21,9 +21,9 @@ use Rattle.log.specs.Laws.Partition.{applyEach, EachApplies, picked, picked-yes
 use Rattle.session.specs.Call.{Geometry}
 use Rattle.session.specs.Model.{Model}
 use Rattle.register.specs.Replay.{replay}
-use Rattle.register.specs.Register.{Register, Acknowledged, isSent, chosen, sentIn}
+use Rattle.register.specs.Register.{Register, Acknowledged, isSent, chosen, sentIn, recordedOf}
 use Rattle.register.specs.History.{Is, goneBy}
-use Rattle.register.specs.Claim.{recordedOf, SentAt}
+use Rattle.register.specs.Claim.{SentAt}
 use Rattle.register.specs.Laws.Fate.{Among, isLive, FateIs, waits, went, gone, fate-is, no-both, sent-live, waiting-live, live-there}
 use Rattle.register.specs.Laws.Invariant.{NumberedFrom, Kept, Good}
 use Rattle.register.specs.Laws.Pick.{picked-none, picked-same, picked-twice, picked-append}

@@ -9,8 +9,7 @@ use lib.ListN.{length}
 use Rattle.record.specs.Operation.{Record}
 use Rattle.log.specs.Laws.Order.{Rising, InOrder}
 use Rattle.log.specs.Laws.Partition.{picked, picked-in}
-use Rattle.register.specs.Register.{Acknowledged, isWaiting, chosen}
-use Rattle.register.specs.Claim.{recordedOf}
+use Rattle.register.specs.Register.{Acknowledged, isWaiting, chosen, recordedOf}
 use Rattle.register.specs.Laws.Fate.{Among}
 use Rattle.register.specs.Laws.Invariant.{NumberedFrom}
 use Rattle.register.specs.Laws.Send.{in-picked, there-picked}

@@ -1,7 +1,7 @@
 -- What "precedes" of the history means among the operations that wait: what precedes in the list of their records.
 use Prim.Native.Nat.{ℕ, _<_}
 use native.Mathlib.Omega.{arith}
-use mathlib.Core.Path.{_≡_, refl, ap, _∙_, subst}
+use mathlib.Core.Path.{_≡_, refl, sym, ap, _∙_, subst}
 use mathlib.Core.Logic.{_⊎_, _↔_, inl, inr, ⊎-elim}
 use mathlib.Core.List.{List, List·Memᴰ}
 use mathlib.Core.Bool.{Bool, true, false, _&&_, and-eq-true-iff}
@@ -10,9 +10,11 @@ use Rattle.record.specs.Operation.{Record, operands}
 use Rattle.record.specs.Fields.{member}
 use Rattle.log.specs.Order.{before, preceded, PrecedesIn}
 use Rattle.log.specs.Laws.Order.{Rising, Reason, hasOperand, before-earlier, before-ordered, before-of, preceded-exact, needed-exact}
-use Rattle.register.specs.Register.{Register, Acknowledged, lost, isWaiting, isSent, chosen, waitingIn, neededFor}
+use Rattle.register.specs.Register.{Register, Acknowledged, lost, isWaiting, isSent, chosen, waitingIn}
+use Rattle.register.specs.Feed.{neededFor}
 use Rattle.register.specs.History.{Is, goneBy, lostBefore, directly, Precedes}
 use Rattle.register.specs.Claim.{Covers, Unpreceded}
+use Rattle.register.specs.Laws.Covered.{covered-needed}
 use Rattle.register.specs.Laws.Fate.{FateIs, waits, went, gone, fate-is, no-both, waits-not-sent, waiting-there}
 use Rattle.register.specs.Laws.Invariant.{Timed}
 use Rattle.register.specs.Laws.Operation.{chosen-picked, chosen-there, chosen-in, chosen-rising, Waits, waits-of}
@@ -102,7 +104,7 @@ needs-exact r t rise o q = (
 )
   where
     exact : List·Memᴰ q (neededFor o r) ↔ (List·Memᴰ q (waitingIn r) × Reason (hasOperand o) (waitingIn r) q)
-    exact = needed-exact o (waitingIn r) (chosen-rising isWaiting (r .operations) rise) q
+    exact = subst (λ (l : List Record). List·Memᴰ q l ↔ (List·Memᴰ q (waitingIn r) × Reason (hasOperand o) (waitingIn r) q)) (sym (covered-needed o (r .operations))) (needed-exact o (waitingIn r) (chosen-rising isWaiting (r .operations) rise) q)
 
     Other : Acknowledged → Type 0
     Other a = (b : Acknowledged) × Is b r × (isWaiting b ≡ true) × (member o (operands (b .recorded .operation)) ≡ true) × Precedes r a b

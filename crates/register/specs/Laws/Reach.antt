@@ -12,9 +12,8 @@ use Rattle.log.specs.Order.{shares, touches, directlyPrecedes}
 use Rattle.log.specs.Laws.Swap.{Apart, disjoint, stretches, apart}
 use Rattle.log.specs.Laws.Partition.{picked}
 use Rattle.log.specs.Laws.Chain.{Chain, last, next}
-use Rattle.register.specs.Register.{Register, Fate, waiting, sent, lost, Acknowledged, Touch, Renewal, isWaiting, isSent, fated}
+use Rattle.register.specs.Register.{Register, Fate, waiting, sent, lost, Acknowledged, Touch, Renewal, isWaiting, isSent, fated, recordedOf}
 use Rattle.register.specs.History.{goneBy, lostBefore, directly, touchesLater, touchesCall, Reaches, here, chain, Depends, issuer, caller, Marked}
-use Rattle.register.specs.Claim.{recordedOf}
 use Rattle.register.specs.Laws.Fate.{Among, no-both, FateIs, waits, went, gone, fate-is, waits-not-sent, sent-live, live-there, waiting-there}
 use Rattle.register.specs.Laws.Invariant.{Timed}
 use Rattle.register.specs.Laws.Send.{there-picked}

@@ -19,7 +19,8 @@ use Rattle.session.specs.Removal.{Removable}
 use Rattle.session.specs.Laws.Removal.{file-removed, directory-removed}
 use Rattle.session.specs.Laws.Possible.{Sound}
 use Rattle.register.specs.Replay.{replay}
-use Rattle.register.specs.Register.{Register, begun, viewOf, happenAll}
+use Rattle.register.specs.Register.{Register, begun, viewOf}
+use Rattle.register.specs.Laws.Happen.{happenAll}
 use Rattle.register.specs.Run.{State, Moment, Mounted, next, play}
 use Rattle.register.specs.Removal.{Removes, Bare, Removed, Removals}
 use Rattle.register.specs.Laws.Kept.{view-replayed}

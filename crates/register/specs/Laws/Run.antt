@@ -15,12 +15,15 @@ use Rattle.session.specs.Laws.Possible.{Possible}
 use Rattle.session.specs.Laws.Effect.{perform-sound}
 use Rattle.session.specs.Laws.Call.{call-possible}
 use Rattle.session.specs.Laws.Step.{Holds, step-holds, mount-holds}
-use Rattle.register.specs.Register.{Register, begun, happen, happenAll, feed}
+use Rattle.register.specs.Register.{Register, begun}
+use Rattle.register.specs.Feed.{feed}
+use Rattle.register.specs.Laws.Happen.{happen, happenAll}
 use Rattle.register.specs.Run.{State, Moment, Run, next, run, Mounted}
 use Rattle.register.specs.Takes.{fetchedBy}
 use Rattle.register.specs.Takes
 use Rattle.register.specs.Laws.Invariant.{Good}
-use Rattle.register.specs.Laws.Good.{effect-good, good-all, feed-effects, begun-good}
+use Rattle.register.specs.Laws.Good.{effect-good, good-all, begun-good}
+use Rattle.register.specs.Laws.Fed.{fed}
 use Rattle.register.specs.Laws.Since.{Since, since-same, since-then, all-since}
 use Rattle.register.specs.Laws.Known.{Known, begun-known, known-all}
 use Rattle.register.specs.Laws.Fetched.{Fetched, fetchedIn}
@@ -56,10 +59,7 @@ module _ (g : Geometry) where
   module _ (v : Volume) where
     -- the register is fed with the call's effects on the model
     pub led-fed : (s : State) (x : Model) → Led g v s x → (c : Call) → next g c s .register ≡ happenAll (effectsIn g c x) (s .register)
-    unfolding feed
-    led-fed s x l c =
-        ap (λ (a : Answer). feed c a (s .register)) (step-holds g c (s .buffers) x (l .holds) .gives)
-        ∙ ap (λ (es : List Effect). happenAll es (s .register)) (feed-effects g (s .register) x (l .good) c (answerOf g c x))
+    led-fed s x l c = ap (λ (a : Answer). feed c a (s .register)) (step-holds g c (s .buffers) x (l .holds) .gives) ∙ fed g (s .register) x (l .good) c
 
     -- one call
     pub next-led : (s : State) (x : Model) → Led g v s x → (c : Call) → Led g v (next g c s) (leavesOf g c x)

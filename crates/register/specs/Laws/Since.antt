@@ -15,9 +15,11 @@ use Rattle.session.specs.Call.{Geometry}
 use Rattle.session.specs.Model.{Model}
 use Rattle.session.specs.Effect.{Effect, note, issue, send, discard, take, renew, perform}
 use Rattle.session.specs.Laws.Possible.{Possible, AllPossible}
-use Rattle.register.specs.Register.{Register, Acknowledged, Fate, waiting, sent, lost, isWaiting, isSent, chosen, waitingIn, fated, sending, losing, happen, happenAll}
+use Rattle.register.specs.Register.{Register, Acknowledged, Fate, waiting, sent, lost, isWaiting, isSent, chosen, waitingIn, fated, recordedOf}
+use Rattle.register.specs.Feed.{sending, losing}
+use Rattle.register.specs.Laws.Happen.{happen, happenAll}
 use Rattle.register.specs.History.{Is, goneBy, Precedes}
-use Rattle.register.specs.Claim.{recordedOf, SentAt, ClosedSet}
+use Rattle.register.specs.Claim.{SentAt, ClosedSet}
 use Rattle.register.specs.Laws.Fate.{send-record, send-issued, send-sent, send-gone, lose-record, lose-issued, lose-sent}
 use Rattle.register.specs.Laws.Invariant.{Kept, Timed, Good}
 use Rattle.register.specs.Laws.Send.{rising-unique}

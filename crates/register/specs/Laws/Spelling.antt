@@ -31,7 +31,8 @@ use Rattle.session.specs.Step.{answerOf, effectsIn, leavesOf, turnedDown, joinM
 use Rattle.session.specs.Laws.Possible.{Sound}
 use Rattle.session.specs.Laws.Edit.{rename-accepted}
 use Rattle.register.specs.Replay.{replay}
-use Rattle.register.specs.Register.{Register, begun, Acknowledged, waiting, viewOf, happen, happenAll}
+use Rattle.register.specs.Register.{Register, begun, Acknowledged, waiting, viewOf}
+use Rattle.register.specs.Laws.Happen.{happen, happenAll}
 use Rattle.register.specs.Run.{State, Moment, Mounted, next, play}
 use Rattle.register.specs.Spelling.{TwoAlike, SameNames, NewSpelling, Spellings}
 use Rattle.register.specs.Laws.Kept.{view-replayed}

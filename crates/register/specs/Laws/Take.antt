@@ -2,10 +2,10 @@
 use Prim.Native.Nat.{ℕ, _+_}
 use native.Mathlib.Omega.{arith}
 use mathlib.Core.Path.{_≡_, refl, sym, ap, _∙_, subst}
-use mathlib.Core.List.{List, [], _∷_, _++_, map}
+use mathlib.Core.List.{List, [], _∷_, _++_, map, append-nil}
 use mathlib.Core.Bool.{Bool, true, false, not, _&&_, cond}
 use mathlib.Core.Option.{Option, none, some}
-use lib.ListN.{length, take, drop, getD}
+use lib.ListN.{length, take, drop, getD, length-append}
 use lib.Seq.{take-append-le, take-length}
 use lib.Dec.{eqb, ltb}
 use borrow.Author.Tests.{eqb-true}
@@ -25,7 +25,8 @@ use Rattle.session.specs.Effect
 use Rattle.session.specs.Effect.{Effect, note, issue, send, discard, perform, sends, issuing, acceptedEffects, refusedEffects, brokenSync, effectsOf}
 use Rattle.session.specs.Send.{ofRecord, lossBytes, takeOf}
 use Rattle.session.specs.Step.{answerOf, effectsIn}
-use Rattle.register.specs.Takes.{wrote}
+use Rattle.register.specs.Run.{Moment}
+use Rattle.register.specs.Takes.{wrote, fetchedBy, tookOne, acceptedTakes}
 use Rattle.register.specs.Laws.Fetched.{oneOrNone, fetchedIn}
 use Rattle.register.specs.Laws.Fetch.{fetched-one}
 
@@ -160,3 +161,29 @@ none-left p (s ∷ l) e = go (isLossOf p s) (none-left p l) e
     go : (b : Bool) → (earliest (isLossOf p) l ≡ none → lossesOf p l ≡ []) → cond b (some (s .recorded)) (earliest (isLossOf p) l) ≡ none → cond b (s .recorded ∷ lossesOf p l) (lossesOf p l) ≡ []
     go true k h = let z : _≡_ {A = ℕ} 0 1 = cc in absurd (omega arith)
     go false k h = k h
+
+-- each accepted take fetches one
+took-wrote : (p : ℕ) (c : Call) (a : Answer) → tookOne p c a ≡ length (wrote p c a)
+took-wrote p (question q s) a = refl
+took-wrote p (change q c) a = refl
+took-wrote p (link l) a = refl
+took-wrote p (recovery q (Class.take own)) a = go (eqb (a .returned) 0 && eqb q p)
+  where
+    go : (b : Bool) → cond b 1 0 ≡ length (cond b (take (getD (a .results) 0 0) (a .buffer) ∷ []) [])
+    go true = refl
+    go false = refl
+took-wrote p (recovery q Class.renew) a = refl
+
+pub takes-fetched : (p : ℕ) (ms : List Moment) → acceptedTakes p ms ≡ length (fetchedBy p ms)
+unfolding acceptedTakes fetchedBy
+takes-fetched p [] = refl
+takes-fetched p (m ∷ ms) =
+    let rest = takes-fetched p ms in
+    let one = took-wrote p (m .call) (m .answer) in
+    let both = length-append (wrote p (m .call) (m .answer)) (fetchedBy p ms) in
+    omega arith
+
+-- as many as there are, from the first on, are all
+pub all-fetched : (u v w : List (List ℕ)) → w ≡ u ++ v → length w ≡ length u → u ≡ w
+all-fetched u [] w e n = sym (e ∙ append-nil u)
+all-fetched u (b ∷ v) w e n = let k = length-append u (b ∷ v) in let z = ap length e in absurd (omega arith)

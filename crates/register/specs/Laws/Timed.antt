@@ -1,6 +1,6 @@
 -- What the register keeps by itself, over each effect: the times of issues and losses, and that the sent ones leave out no direct
 -- predecessor.
-use Prim.Native.Nat.{ℕ, _+_, _<_}
+use Prim.Native.Nat.{ℕ, _+_, _<_, _≤_}
 use native.Mathlib.Omega.{arith}
 use mathlib.Core.Path.{_≡_, refl, sym, ap, _∙_, subst}
 use mathlib.Core.Logic.{_⊎_, inl, inr, ⊎-elim}
@@ -11,9 +11,9 @@ use borrow.Author.Tests.{ltb-true, lt-ltb, le-ltb, eqb-true, not-true}
 use Rattle.buffer.specs.Laws.Test.{or-cases, or-left}
 use Rattle.log.specs.Order.{directlyPrecedes}
 use Rattle.log.specs.Laws.Order.{Rising}
-use Rattle.register.specs.Register.{Fate, waiting, sent, lost, Acknowledged, isWaiting, isSent, sending, losing, fated}
+use Rattle.register.specs.Register.{Fate, waiting, sent, lost, Acknowledged, isWaiting, isSent, fated, recordedOf}
+use Rattle.register.specs.Feed.{sending, losing}
 use Rattle.register.specs.History.{goneBy, lostBefore, directly}
-use Rattle.register.specs.Claim.{recordedOf}
 use Rattle.register.specs.Laws.Fate.{Among, no-both, FateIs, waits, went, gone, fate-is, send-record, send-issued, send-sent, send-waiting, send-fate, send-gone, lose-record, lose-issued, lose-waiting, lose-sent}
 use Rattle.register.specs.Laws.Invariant.{Timed}
 use Rattle.register.specs.Laws.Pick.{map-in}
@@ -54,12 +54,12 @@ module _ (l : List Acknowledged) (happened : ℕ) (t : Timed l happened) where
       }
 
   -- a change of fates that keeps who was lost before whom
-  module _ (h : Acknowledged → Acknowledged) (same : (a : Acknowledged) → recordedOf (h a) ≡ recordedOf a) (when : (a : Acknowledged) → h a .issued ≡ a .issued) where
+  module _ (h : Acknowledged → Acknowledged) (same : (a : Acknowledged) → recordedOf (h a) ≡ recordedOf a) (when : (a : Acknowledged) → h a .issued ≡ a .issued) (now : ℕ) (on : happened ≤ now) where
     timed-map : ((a c : Acknowledged) → Among a l → Among c l → goneBy (c .issued) (h a .fate) ≡ goneBy (c .issued) (a .fate))
-        → ((a : Acknowledged) (u : ℕ) → Among a l → h a .fate ≡ lost u → u < happened + 1)
+        → ((a : Acknowledged) (u : ℕ) → Among a l → h a .fate ≡ lost u → u < now)
         → ((a b : Acknowledged) (u : ℕ) → Among a l → Among b l → h a .fate ≡ lost u → isWaiting (h b) ≡ true → u < b .issued)
         → ((a c : Acknowledged) → Among a l → Among c l → isSent (h c) ≡ true → directly a c ≡ true → isSent (h a) ≡ true)
-        → Timed (map h l) (happened + 1)
+        → Timed (map h l) now
     timed-map there past later shut =
         record {
           issued = λ b m. let x = map-in recordedOf h l b m in let y = t .issued (x .0) (x .1) in let z = ap (λ (k : Acknowledged). k .issued) (x .2) ∙ when (x .0) in omega arith;
@@ -90,13 +90,13 @@ module _ (l : List Acknowledged) (happened : ℕ) (t : Timed l happened) where
       go (gone u k n j) = no-both (lostBefore c a) (ap (goneBy (a .issued)) k ∙ lt-ltb u (a .issued) (t .later c a u m (f .among) k (f .waiting))) (x .there)
 
   -- the send of a waiting operation that no waiting one directly precedes
-  pub timed-send : Rising (λ a. a .recorded .sequence) l → (a : Acknowledged) → Free l a → Timed (map (sending (a .recorded .sequence)) l) (happened + 1)
+  pub timed-send : Rising (λ a. a .recorded .sequence) l → (a : Acknowledged) → Free l a → Timed (map (sending (a .recorded .sequence)) l) happened
   timed-send rise a f =
       let q = a .recorded .sequence in
       let is : (c : Acknowledged) → Among c l → eqb (c .recorded .sequence) q ≡ true → a ≡ c = λ c m e. rising-unique recordedOf l rise a c (f .among) m (sym (eqb-true _ _ e)) in
-      timed-map (sending q) (send-record q) (send-issued q)
+      timed-map (sending q) (send-record q) (send-issued q) happened (omega arith)
       (λ b c mb mc. send-gone q b (λ e. subst (λ (y : Acknowledged). isWaiting y ≡ true) (is b mb e) (f .waiting)) (c .issued))
-      (λ b u m k. let x = t .past b u m (send-fate q b u k) in omega arith)
+      (λ b u m k. t .past b u m (send-fate q b u k))
       (λ b d u mb md k w. t .later b d u mb md (send-fate q b u k) (and-eq-true-iff (isWaiting d) (not (eqb (d .recorded .sequence) q)) .0 (sym (send-waiting q d) ∙ w) .0))
       (λ b d mb md s e.
       send-sent q b
@@ -124,7 +124,7 @@ module _ (l : List Acknowledged) (happened : ℕ) (t : Timed l happened) where
   -- all waiting ones become lost
   pub timed-cut : Timed (map (losing happened) l) (happened + 1)
   timed-cut =
-      timed-map (losing happened) (lose-record happened) (lose-issued happened) (λ a c ma mc. lose-gone a c mc)
+      timed-map (losing happened) (lose-record happened) (lose-issued happened) (happened + 1) (omega arith) (λ a c ma mc. lose-gone a c mc)
       (λ a u m f. ⊎-elim (λ (z : a .fate ≡ lost u). let y = t .past a u m z in omega arith) (λ (z : u ≡ happened). omega arith) (lose-fate a u f))
       (λ a b u ma mb f w. no-both (isWaiting (losing happened b)) w (lose-waiting happened b))
       (λ a c ma mc s e. lose-sent happened a ∙ t .shut a c ma mc (sym (lose-sent happened c) ∙ s) e)

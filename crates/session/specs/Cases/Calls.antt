@@ -325,8 +325,43 @@ removal =
     ∷ C 5 (leftBy small (makeDirectory 0 0 (named 97) 1 ∷ push 1 ∷ removeDirectory 0 0 (named 97) ∷ cut ∷ []) (take 0 buffer)) removalLost
     ∷ []
 
+-- a directory 1 and a file 2 of 8 bytes in it, sent
+abbrev pub sentTree : List Call
+sentTree = makeDirectory 0 0 (named 97) 1 ∷ createFile 0 1 (named 98) 2 ∷ setLength 0 2 8 ∷ push 1 ∷ push 2 ∷ push 3 ∷ []
+
+-- and an overwrite of program 1 that waits, with the file as its only operand; or a new file 3 in the directory, with these two as operands
+abbrev pub fileWaits : List Call
+fileWaits = sentTree ++ (write 1 2 0 (replicate 4 7) ∷ [])
+
+abbrev pub directoryWaits : List Call
+directoryWaits = sentTree ++ (createFile 1 1 (named 99) 3 ∷ [])
+
+-- of a program that made one call before a cut
+abbrev pub isMarked : List ℕ
+isMarked = 4 ∷ 0 ∷ 0 ∷ 0 ∷ []
+
+abbrev pub isNot : List ℕ
+isNot = 0 ∷ 2 ∷ 0 ∷ 0 ∷ []
+
+-- "Order and dependence": "a later successful call of its own has an operand which that operation .. touches"
+abbrev pub dependence : List Row
+dependence =
+    -- "the others have their object": stat, read and list
+    C 1 (answersTo small fileWaits (stat 2 2 ∷ cut ∷ stat 2 0 ∷ [])) (numbers ((0 ∷ 1 ∷ 8 ∷ 0 ∷ []) ∷ (0 ∷ []) ∷ isMarked ∷ []))
+    ∷ C 2 (answersTo small fileWaits (read 2 2 0 (replicate 4 0) ∷ cut ∷ stat 2 0 ∷ [])) (numbers ((0 ∷ 4 ∷ []) ∷ (0 ∷ []) ∷ isMarked ∷ []))
+    ∷ C 3 (answersTo small directoryWaits (list 2 1 (replicate 10 0) ∷ cut ∷ stat 2 0 ∷ [])) (numbers ((0 ∷ 10 ∷ []) ∷ (0 ∷ []) ∷ isMarked ∷ []))
+    -- "Lookup's operands are the directories it searches and the object found", below the root too
+    ∷ C 4 (answersTo small fileWaits (lookup 2 (47 ∷ 97 ∷ 47 ∷ 98 ∷ []) ∷ cut ∷ stat 2 0 ∷ [])) (numbers ((0 ∷ 2 ∷ []) ∷ (0 ∷ []) ∷ isMarked ∷ []))
+    ∷ C 4 (answersTo small directoryWaits (lookup 2 (47 ∷ 97 ∷ 47 ∷ 98 ∷ []) ∷ cut ∷ stat 2 0 ∷ [])) (numbers ((0 ∷ 2 ∷ []) ∷ (0 ∷ []) ∷ isMarked ∷ []))
+    ∷ C 4 (answersTo small fileWaits (lookup 2 (47 ∷ 97 ∷ []) ∷ cut ∷ stat 2 0 ∷ [])) (numbers ((0 ∷ 1 ∷ []) ∷ (0 ∷ []) ∷ isNot ∷ []))
+    -- a change: the overwrite of other bytes is sent, and its program still depends on the one that it touched
+    ∷ C 5 (answersTo small fileWaits (write 2 2 4 (replicate 4 7) ∷ push 5 ∷ cut ∷ stat 2 0 ∷ [])) (numbers ((0 ∷ 5 ∷ []) ∷ (0 ∷ []) ∷ (0 ∷ []) ∷ isMarked ∷ []))
+    -- an accepted fsync sends all that it depends on
+    ∷ C 6 (answersTo small fileWaits (fsync 2 2 1 ∷ cut ∷ stat 2 0 ∷ [])) (numbers ((0 ∷ 1 ∷ []) ∷ (0 ∷ []) ∷ isNot ∷ []))
+    ∷ []
+
 abbrev pub table : List Row
-table = cases ++ (examples ++ (across ++ (spelling ++ removal)))
+table = cases ++ (examples ++ (across ++ (spelling ++ (removal ++ dependence))))
 
 -- every row: the definitions give what the documents tell
 pub cases-hold : map (λ r. answerTo (r .asked)) table ≡ map (λ r. r .told) table

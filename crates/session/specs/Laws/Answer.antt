@@ -3,7 +3,7 @@
 use Prim.Native.Nat.{ℕ, _<_}
 use native.Mathlib.Omega.{arith}
 use mathlib.Core.Path.{_≡_, refl, sym, ap, _∙_, subst}
-use mathlib.Core.List.{List, [], _∷_, _++_, nil≢cons}
+use mathlib.Core.List.{List, [], _∷_, _++_}
 use mathlib.Core.Bool.{Bool, true, false, not, cond, false≢true}
 use mathlib.Core.Option.{Option, none, some}
 use lib.ListN.{length, replicate}
@@ -37,8 +37,7 @@ use Rattle.session.specs.Call
 use Rattle.session.specs.Refusal.{Row, row}
 use Rattle.session.specs.Refusal
 use Rattle.session.specs.Model.{Model, unless, badProgram, isMarked, toldOf}
-use Rattle.session.specs.Told.{Told}
-use Rattle.session.specs.Issue.{issues, alters, onFound, displaced, removes, writes}
+use Rattle.session.specs.Issue.{issues, onFound, displaced, removes, writes}
 use Rattle.session.specs.Edit.{roomRows, changed, changeRows, makeRows, removeRows, renameRows, writeRows, lengthRows, forderRows}
 use Rattle.log.specs.Sends.{applying}
 use Rattle.session.specs.Send.{ofRecord, pushOf, syncAnswer, fsyncOf, noLoss, takeOf, renewOf, syncRows}
@@ -277,15 +276,15 @@ module _ (g : Geometry) (x : Model) (s : Sound g x) where
         results = ap (λ (a : Answer). a .results) by ∙ told c p (removeRows takes (x .view) d n) r;
       }
 
-  pub change-answered : (c : Call) → alters c ≡ true → answerOf g c x .returned ≡ 0 → Changes g c x
+  pub change-answered : (p : ℕ) (c : Change) → answerOf g (change p c) x .returned ≡ 0 → Changes g (change p c) x
   unfolding answerOf
-  change-answered (change p (Class.createFile d n o)) a e =
+  change-answered p (Class.createFile d n o) e =
       record { program = p; first = Operation.createFile o d n; others = []; issued = refl; effects = refl; results = told (createFile p d n o) p (makeRows (x .view) d n o) e }
-  change-answered (change p (Class.makeDirectory d n o)) a e =
+  change-answered p (Class.makeDirectory d n o) e =
       record { program = p; first = Operation.makeDirectory o d n; others = []; issued = refl; effects = refl; results = told (makeDirectory p d n o) p (makeRows (x .view) d n o) e }
-  change-answered (change p (Class.removeFile d n)) a e = remove-answered isFile p d n (removeFile p d n) refl (refl, refl) e
-  change-answered (change p (Class.removeDirectory d n)) a e = remove-answered isDirectory p d n (removeDirectory p d n) refl (refl, refl) e
-  change-answered (change p (Class.rename d n b k)) a e =
+  change-answered p (Class.removeFile d n) e = remove-answered isFile p d n (removeFile p d n) refl (refl, refl) e
+  change-answered p (Class.removeDirectory d n) e = remove-answered isDirectory p d n (removeDirectory p d n) refl (refl, refl) e
+  change-answered p (Class.rename d n b k) e =
       let f = rename-accepted g x s p d n b k e in
       record {
         program = p;
@@ -295,7 +294,7 @@ module _ (g : Geometry) (x : Model) (s : Sound g x) where
         effects = refl;
         results = told (rename p d n b k) p (renameRows (x .view) d n b k) e;
       }
-  change-answered (change p (Class.write o f t)) a e =
+  change-answered p (Class.write o f t) e =
       let k = writes-some (length (contentsOf (entryAt (x .view) o))) o f t (write-some g x s p o f t e) in
       record {
         program = p;
@@ -305,20 +304,10 @@ module _ (g : Geometry) (x : Model) (s : Sound g x) where
         effects = refl;
         results = told (write p o f t) p (writeRows (g .blocks) (x .view) o f t) e;
       }
-  change-answered (change p (Class.setLength o f)) a e =
+  change-answered p (Class.setLength o f) e =
       record { program = p; first = Operation.setLength o f; others = []; issued = refl; effects = refl; results = told (setLength p o f) p (lengthRows (g .blocks) (x .view) o f) e }
-  change-answered (change p (Class.forder t)) a e =
+  change-answered p (Class.forder t) e =
       record { program = p; first = Operation.forder (objectsOf t); others = []; issued = refl; effects = refl; results = told (forder p t) p (forderRows (x .view) t) e }
-  change-answered (question p q) a e = absurd (false≢true a)
-  change-answered (link l) a e = absurd (false≢true a)
-  change-answered (recovery p l) a e = absurd (false≢true a)
-
--- a call that issues something is a change or forder
-pub issues-alters : (t : Told) (c : Call) (o : Operation) (os : List Operation) → issues t c ≡ o ∷ os → alters c ≡ true
-issues-alters t (question p q) o os e = absurd (nil≢cons e)
-issues-alters t (change p c) o os e = refl
-issues-alters t (link l) o os e = absurd (nil≢cons e)
-issues-alters t (recovery p l) o os e = absurd (nil≢cons e)
 
 -- an accepted fsync answers how many it needs
 pub sync-answered : (p o k : ℕ) (x : Model) → fsyncOf p o k x .returned ≡ 0 → fsyncOf p o k x .results ≡ length (needed o (waitingOf (x .log .slots))) ∷ []

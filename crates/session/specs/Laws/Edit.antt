@@ -251,6 +251,12 @@ module _ (g : Geometry) (x : Model) (s : Sound g x) where
       let r = change-passed g (write p o f d) p (writeRows (g .blocks) (x .view) o f d) x refl e .1 in
       write-range f (length d) (length (contentsOf (entryAt (x .view) o))) (r .1 .1 .1 .0) .0
 
+  -- and begins at the length of its file at most
+  pub write-begins : (p o f : ℕ) (d : List ℕ) → changed g (write p o f d) p (writeRows (g .blocks) (x .view) o f d) x .returned ≡ 0 → f ≤ length (contentsOf (entryAt (x .view) o))
+  write-begins p o f d e =
+      let r = change-passed g (write p o f d) p (writeRows (g .blocks) (x .view) o f d) x refl e .1 in
+      write-range f (length d) (length (contentsOf (entryAt (x .view) o))) (r .1 .1 .1 .0) .2
+
   pub write-accepted : (p o f : ℕ) (d : List ℕ) → changed g (write p o f d) p (writeRows (g .blocks) (x .view) o f d) x .returned ≡ 0 → Issuing g x p (writes (x .view) o f d)
   write-accepted p o f d e =
       let a = change-passed g (write p o f d) p (writeRows (g .blocks) (x .view) o f d) x refl e in

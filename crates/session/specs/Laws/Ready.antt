@@ -41,7 +41,7 @@ ready-free w l q d = go (any (λ a. before a q) w) refl
     go false e = e
 
 -- of a list in issue order, the member of a number is one
-order-apart : (u v : List Record) (q : Record) → InOrder (u ++ (q ∷ v)) → (a : Record) → List·Memᴰ a (u ++ v) → a .sequence ≡ q .sequence → ⊥
+pub order-apart : (u v : List Record) (q : Record) → InOrder (u ++ (q ∷ v)) → (a : Record) → List·Memᴰ a (u ++ v) → a .sequence ≡ q .sequence → ⊥
 order-apart [] v q o a m e = let lt = o .0 a m in omega arith
 order-apart (b ∷ u) v q o a m e =
     ⊎-elim (λ (z : a ≡ b). let lt = o .0 q (Memᴰ·append-right u (List·Memᴰ·head refl)) in let y = ap (λ (r : Record). r .sequence) z in omega arith)
