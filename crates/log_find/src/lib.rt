@@ -5,15 +5,41 @@ ghost use lib.ListN.{length};
 ghost use Rattle.log.specs.Change.{isSequence, isLossOf};
 ghost use Rattle.log.specs.Code.Slots.{slotsIn, slotAt, Slotted};
 ghost use Rattle.log_find.specs.Code.Found.{FoundBy};
+ghost use Rattle.log_find.specs.Position.{soughtNumber, leftNumber};
 use log_slots::SLOT;
 use log_slots::slot::program;
 use log_slots::slot::sequence;
 use log_slots::slot::waits;
+use returned::ACCEPTED;
+use returned::LOSSES_LEFT;
+use returned::NONE;
 
 // Where a slot was found.
 pub enum Position {
     At(usize),
     Nothing,
+}
+
+impl Position {
+    // The number for a call that needs what was sought.
+    pub fn sought(self) -> usize
+        ensures { λ r. ⌜ r ≡ soughtNumber self ⌝ }
+    {
+        match self {
+            Position::At(_) => ACCEPTED,
+            Position::Nothing => NONE,
+        }
+    }
+
+    // The number for a call that needs that nothing is left.
+    pub fn left(self) -> usize
+        ensures { λ r. ⌜ r ≡ leftNumber self ⌝ }
+    {
+        match self {
+            Position::At(_) => LOSSES_LEFT,
+            Position::Nothing => ACCEPTED,
+        }
+    }
 }
 
 // Whether a slot holds the waiting operation of a sequence number.

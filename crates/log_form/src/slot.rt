@@ -50,7 +50,8 @@ fn record_formed(part: &[u8], n: usize, b: usize, waits: bool) -> SlotForm
     };
     if fits(part, w, n, b) {
         let next = w.next;
-        if all_zero(&part[next..]) {
+        let end = next.at;
+        if all_zero(&part[end..]) {
             let head = w.head;
             return SlotForm::Is(head.sequence, waits);
         }

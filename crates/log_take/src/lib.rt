@@ -30,7 +30,8 @@ fn put_loss(s: &[u8], i: usize, own: &mut [u8]) -> usize
     let Reading::Is(w) = read_record(rec, 0) else {
         return 0;
     };
-    let len = w.next;
+    let next = w.next;
+    let len = next.at;
     put_bytes(own, 0, &rec[..len])
 }
 

@@ -33,9 +33,10 @@ pub fn pass(s: &[u8], base: usize, ended: bool, out: &mut [u8]) -> Progress
     requires { ⌜ 2 * length (now s) + 25 ≤ length (now out) ⌝ }
     ensures { λ r. ⌜ Passed (now (s .entry)) base ended (now (out .entry)) (now (out .exit)) r ⌝ }
 {
-    let mut at = 0;
+    let mut place = Place { at: 0 };
     let mut to = 0;
-    while at < s.len() {
+    while place.at < s.len() {
+        let at = place.at;
         if !ended {
             if s.len() - at < LONGEST {
                 return Progress {
@@ -45,8 +46,7 @@ pub fn pass(s: &[u8], base: usize, ended: bool, out: &mut [u8]) -> Progress
                 };
             }
         }
-        let p = Place { at: at };
-        let Reading::Is(w) = p.record(s) else {
+        let Reading::Is(w) = place.record(s) else {
             let end = put_bad(base + at, out, to);
             return Progress {
                 next: at,
@@ -57,8 +57,9 @@ pub fn pass(s: &[u8], base: usize, ended: bool, out: &mut [u8]) -> Progress
         let head = w.head;
         let kind = head.kind;
         to = put_line(head.sequence, head.program, kind.code(), out, to);
-        at = w.next;
+        place = w.next;
     }
+    let at = place.at;
     if ended {
         return Progress {
             next: at,

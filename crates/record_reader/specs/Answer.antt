@@ -11,10 +11,8 @@ use Rattle.record_reader.specs.declared.Range.{Range}
 use Rattle.record_reader.specs.declared.Whole.{Whole}
 use Rattle.record_reader.specs.declared.Reading.{Reading}
 use Rattle.record_reader.specs.declared.Reading.the-variants.{Is as RecordIs, Bad as NoRecord}
-use Rattle.record.specs.Kind.{codeOf}
 use Rattle.buffer.specs.Numeral.{bytes}
 use Rattle.record.specs.Operation.{Record, kindOf, mapOf}
-use Rattle.returned.specs.Returned.{accepted, badRecord}
 use Rattle.buffer.specs.Code.Span.{span}
 use Rattle.record.specs.Fields.{Parts, parts, standsIn, numberIf, field, text, pairs, objectFields, nameFields, encode, valid}
 
@@ -63,7 +61,7 @@ wholeOf r at =
       objects = objectsIn m x;
       names = namesIn m x (at + 8 + length (objectFields m x));
       range = rangeIn m x (at + 8 + length (objectFields m x) + length (nameFields m x));
-      next = at + length (encode r);
+      next = record { at = at + length (encode r) };
     }
 
 -- what stands at a place of a buffer: exactly if its bytes from there begin with those of a valid record, that record;
@@ -71,13 +69,3 @@ wholeOf r at =
 pub data Exact (s : List ℕ) (at : ℕ) : Reading → Type 0 where
   read : (r : Record) (rest : List ℕ) → valid r ≡ true → drop at s ≡ encode r ++ rest → Exact s at (RecordIs (wholeOf r at))
   refused : ((r : Record) (rest : List ℕ) → valid r ≡ true → drop at s ≡ encode r ++ rest → ⊥) → Exact s at NoRecord
-
--- document 01's number for each answer
-abbrev pub readingNumber : Reading → ℕ
-readingNumber (RecordIs w) = accepted
-readingNumber NoRecord = badRecord
-
--- the results besides: the next place, sequence, program and kind; zeros with 20
-abbrev pub readingResults : Reading → List ℕ
-readingResults (RecordIs w) = w .next ∷ w .head .sequence ∷ w .head .program ∷ codeOf (w .head .kind) ∷ []
-readingResults NoRecord = 0 ∷ 0 ∷ 0 ∷ 0 ∷ []

@@ -96,7 +96,7 @@ pub struct Whole {
     pub objects: Objects,
     pub names: Names,
     pub range: Range,
-    pub next: usize,
+    pub next: Place,
 }
 
 // What stands at a place: a whole valid record, or none ("20 Bad record").
@@ -362,7 +362,7 @@ impl Place {
                 objects: objects,
                 names: names,
                 range: range,
-                next: t.at,
+                next: t,
             });
         }
         Reading::Bad

@@ -5,6 +5,7 @@ ghost use lib.ListN.{length};
 ghost use Rattle.volume_tree.specs.Stored.{readVolume};
 ghost use Rattle.volume_tree.specs.Code.Lent.{Lent};
 ghost use Rattle.log.specs.Stored.{logBytes, readLog};
+ghost use Rattle.log_fsync.specs.Answer.{syncedNumber, sendsMade};
 ghost use Rattle.session.specs.Call.{geometry, buffers};
 ghost use Rattle.session.specs.Call;
 ghost use Rattle.session.specs.Step.{given, step};
@@ -41,6 +42,18 @@ fn sync_refusal(
     object_refusal(view, n, b, object)
 }
 
+// The returned number of an answer, and how many were sent.
+fn value_of(answer: Synced) -> Value
+    ensures { λ r. ⌜ r .returned ≡ syncedNumber answer ⌝ }
+    ensures { λ r. ⌜ r .value ≡ sendsMade answer ⌝ }
+{
+    match answer {
+        Synced::Sent(count) => Value::of(ACCEPTED, count),
+        Synced::Stopped(count) => Value::of(DAMAGED, count),
+        Synced::Lost(count) => Value::of(LINK_LOST, count),
+    }
+}
+
 pub fn fsync(
     n: usize,
     b: usize,
@@ -63,12 +76,9 @@ pub fn fsync(
     if refused != ACCEPTED {
         return Value::refused(refused);
     }
-    match log_fsync::sync_object(server, log, n, b, m, program, object, sends) {
-        Synced::Sent(count) => Value::of(ACCEPTED, count),
-        Synced::Stopped(count) => Value::of(DAMAGED, count),
-        Synced::Lost(count) => {
-            copy_volume(view, server);
-            Value::of(LINK_LOST, count)
-        }
+    let answer = log_fsync::sync_object(server, log, n, b, m, program, object, sends);
+    if let Synced::Lost(_) = answer {
+        copy_volume(view, server);
     }
+    value_of(answer)
 }

@@ -19,7 +19,6 @@ use log_slots::head::used;
 use returned::ACCEPTED;
 use returned::Code;
 use returned::DAMAGED;
-use returned::NONE;
 use returned::NOT_FIRST;
 use session_admission::lent::admit;
 
@@ -59,8 +58,9 @@ pub fn push(
     if wrong != ACCEPTED {
         return Code::of(wrong);
     }
-    match waiting_in(log, m, sequence) {
-        Position::Nothing => Code::of(NONE),
+    let found = waiting_in(log, m, sequence);
+    match found {
+        Position::Nothing => Code::of(found.sought()),
         Position::At(i) => {
             if is_behind(log, m, i) {
                 return Code::of(NOT_FIRST);

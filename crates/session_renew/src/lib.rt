@@ -7,7 +7,6 @@ ghost use Rattle.session.specs.Step.{given, step};
 use log_find::Position;
 use returned::ACCEPTED;
 use returned::Code;
-use returned::LOSSES_LEFT;
 use session_admission::lent::admit;
 use session_admission::program::number_refusal;
 use session_losses::loss_in;
@@ -32,8 +31,9 @@ pub fn renew(
     if refused != ACCEPTED {
         return Code::of(refused);
     }
-    match loss_in(log, m, program) {
-        Position::At(_) => Code::of(LOSSES_LEFT),
+    let found = loss_in(log, m, program);
+    match found {
+        Position::At(_) => Code::of(found.left()),
         Position::Nothing => {
             log_take::renew(log, m, program);
             Code::of(ACCEPTED)

@@ -6,7 +6,6 @@ ghost use Rattle.session.specs.Call;
 ghost use Rattle.session.specs.Step.{given, step};
 use log_find::Position;
 use returned::ACCEPTED;
-use returned::NONE;
 use returned::SHORT_BUFFER;
 use returned::Value;
 use session_admission::lent::admit;
@@ -37,8 +36,9 @@ pub fn take(
     if refused != ACCEPTED {
         return Value::refused(refused);
     }
-    match loss_in(log, m, program) {
-        Position::Nothing => Value::refused(NONE),
+    let found = loss_in(log, m, program);
+    match found {
+        Position::Nothing => Value::refused(found.sought()),
         Position::At(i) => {
             if buffer.len() < LONGEST {
                 return Value::refused(SHORT_BUFFER);

@@ -5,6 +5,8 @@ use Rattle.returned.specs.Returned
 use Rattle.record.specs.Kind.{codeOf}
 use Rattle.record.specs.Operation.{Record}
 use Rattle.record_reader.specs.declared.Whole.{Whole}
+use Rattle.record_reader.specs.declared.Reading.{Reading}
+use Rattle.record_reader.specs.declared.Reading.the-variants.{Is, Bad}
 use Rattle.record_reader.specs.Answer.{wholeOf}
 use Rattle.writebehind.specs.declared.loss.Loss.{Loss}
 
@@ -38,7 +40,7 @@ abbrev pub lossWith : ℕ → Whole → Loss
 lossWith code w =
     record {
       returned = Returned.accepted;
-      next = w .next;
+      next = w .next .at;
       sequence = w .head .sequence;
       program = w .head .program;
       kind = code;
@@ -61,7 +63,15 @@ lossWith code w =
 abbrev pub lossIn : Whole → Loss
 lossIn w = lossWith (codeOf (w .head .kind)) w
 
--- what is answered of the record that begins at a place, if one does
+-- the number and the values of each answer of the reader
+abbrev pub lossRead : Reading → Loss
+lossRead (Is w) = lossIn w
+lossRead Bad = noLoss
+
+-- the answer for the record that begins at a place, if one does
+abbrev pub readingOf : ℕ → Option Record → Reading
+readingOf at none = Bad
+readingOf at (some r) = Is (wholeOf r at)
+
 abbrev pub lossOf : ℕ → Option Record → Loss
-lossOf at none = noLoss
-lossOf at (some r) = lossIn (wholeOf r at)
+lossOf at r = lossRead (readingOf at r)

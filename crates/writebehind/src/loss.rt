@@ -66,6 +66,7 @@ fn no_loss() -> Loss
 fn loss_in(w: Whole) -> Loss
     ensures { λ r. ⌜ r ≡ lossIn w ⌝ }
 {
+    let next = w.next;
     let head = w.head;
     let objects = w.objects;
     let names = w.names;
@@ -77,7 +78,7 @@ fn loss_in(w: Whole) -> Loss
     let kind = head.kind;
     Loss {
         returned: 0,
-        next: w.next as u64,
+        next: next.at as u64,
         sequence: head.sequence as u64,
         program: head.program as u64,
         kind: kind.code() as u64,

@@ -23,7 +23,7 @@ frontFormed s =
 -- the form of a slot, waiting or not, by its record's part and what the reader answered of it: the record fits n and b, and zeros
 -- stand behind it
 abbrev pub formBy : ℕ → ℕ → Bool → List ℕ → Reading → SlotForm
-formBy n b waits p (RecordIs w) = cond (fitsWhole n b p w && zeros (drop (w .next) p)) (Is (w .head .sequence) waits) Bad
+formBy n b waits p (RecordIs w) = cond (fitsWhole n b p w && zeros (drop (w .next .at) p)) (Is (w .head .sequence) waits) Bad
 formBy n b waits p NoRecord = Bad
 
 -- the form of one slot that is not free, by itself

@@ -88,11 +88,11 @@ slot-back e size byte t state blank dep rest =
     (λ i. front i ++ (rest ∙ part) i) ∙ take-append-drop recordStart e
 
 -- The place after a record that the reader answers lies in the bytes.
-pub answered-within : (s : List ℕ) → Bytes s → (at : ℕ) (w : Whole) → at ≤ length s → recordAt s at ≡ RecordIs w → w .next ≤ length s
+pub answered-within : (s : List ℕ) → Bytes s → (at : ℕ) (w : Whole) → at ≤ length s → recordAt s at ≡ RecordIs w → w .next .at ≤ length s
 answered-within s byte at w h e =
     let f = record-sound s byte at w e in
-    let l : length (drop at s) ≡ length (encode (f .found)) + length (drop (w .next) s) =
-    ap length (f .spans .begins) ∙ length-append (encode (f .found)) (drop (w .next) s) in
+    let l : length (drop at s) ≡ length (encode (f .found)) + length (drop (w .next .at) s) =
+    ap length (f .spans .begins) ∙ length-append (encode (f .found)) (drop (w .next .at) s) in
     omega (arith, f .spans .after, length-drop at s)
 
 -- A record that is answered fits exactly if what was answered of it does.
@@ -117,7 +117,7 @@ module _ (n b : ℕ) (e : List ℕ) (size : length e ≡ slotBytes) (byte : Byte
   part-bytes = bytes-part e recordBytes recordStart byte
 
   -- A front that passes, a record that fits, and zeros make a good slot.
-  parts-used : Front e → (w : Whole) → recordAt part 0 ≡ RecordIs w → fitsWhole n b part w ≡ true → zeros (drop (w .next) part) ≡ true
+  parts-used : Front e → (w : Whole) → recordAt part 0 ≡ RecordIs w → fitsWhole n b part w ≡ true → zeros (drop (w .next .at) part) ≡ true
       → Used n b e (w .head .sequence) (eqb (getD e 0 0) 1)
   unfolding wholeOf
   parts-used f w read fit blank =
@@ -126,15 +126,15 @@ module _ (n b : ℕ) (e : List ℕ) (size : length e ≡ slotBytes) (byte : Byte
       let d = dependentsIn e in
       let slot : Slot = record { state = f .state; dependents = d; recorded = r } in
       let long : length part ≡ recordBytes = length-take-le recordBytes (drop recordStart e) (omega (arith, length-drop recordStart e)) in
-      let l : length (drop (w .next) part) ≡ recordBytes - length (encode r) = length-drop (w .next) part ∙ omega (arith, g .spans .after, long) in
+      let l : length (drop (w .next .at) part) ≡ recordBytes - length (encode r) = length-drop (w .next .at) part ∙ omega (arith, g .spans .after, long) in
       let rest : padded recordBytes (encode r) ≡ part =
-      sym (g .spans .begins ∙ ap (λ (t : List ℕ). encode r ++ t) (zeros-replicate (drop (w .next) part) blank ∙ ap (λ (k : ℕ). replicate k 0) l)) in
+      sym (g .spans .begins ∙ ap (λ (t : List ℕ). encode r ++ t) (zeros-replicate (drop (w .next .at) part) blank ∙ ap (λ (k : ℕ). replicate k 0) l)) in
       record {
         slot = slot;
         good =
             record {
               sound = g .good;
-              fit = found-fits n b part part-bytes 0 w r (drop (w .next) part) read (g .good) (g .spans .begins) ∙ fit;
+              fit = found-fits n b part part-bytes 0 w r (drop (w .next .at) part) read (g .good) (g .spans .begins) ∙ fit;
               small = four-below e dependentsAt (omega arith) byte;
               none-if-lost = f .none-if-lost;
             };
@@ -148,17 +148,17 @@ module _ (n b : ℕ) (e : List ℕ) (size : length e ≡ slotBytes) (byte : Byte
   unfolding slotForm
   form-used q w h = front (frontFormed e) refl h
     where
-      tests : Front e → (x : Whole) → recordAt part 0 ≡ RecordIs x → (t : Bool) → (fitsWhole n b part x && zeros (drop (x .next) part)) ≡ t
+      tests : Front e → (x : Whole) → recordAt part 0 ≡ RecordIs x → (t : Bool) → (fitsWhole n b part x && zeros (drop (x .next .at) part)) ≡ t
           → cond t (Is (x .head .sequence) (eqb (getD e 0 0) 1)) Bad ≡ Is q w → Used n b e q w
       tests f x read true p d =
-          let y = and-eq-true-iff (fitsWhole n b part x) (zeros (drop (x .next) part)) .0 p in
+          let y = and-eq-true-iff (fitsWhole n b part x) (zeros (drop (x .next .at) part)) .0 p in
           let a : x .head .sequence ≡ q = cc in
           let c : eqb (getD e 0 0) 1 ≡ w = cc in
           rw (← a, ← c) (parts-used f x read (y .0) (y .1))
       tests f x read false p d = let z : _≡_ {A = ℕ} 0 1 = cc in absurd (omega arith)
 
       reading : Front e → (x : Reading) → recordAt part 0 ≡ x → formBy n b (eqb (getD e 0 0) 1) part x ≡ Is q w → Used n b e q w
-      reading f (RecordIs x) read d = tests f x read (fitsWhole n b part x && zeros (drop (x .next) part)) refl d
+      reading f (RecordIs x) read d = tests f x read (fitsWhole n b part x && zeros (drop (x .next .at) part)) refl d
       reading f NoRecord read d = let z : _≡_ {A = ℕ} 0 1 = cc in absurd (omega arith)
 
       front : (t : Bool) → frontFormed e ≡ t → cond t (formBy n b (eqb (getD e 0 0) 1) part (recordAt part 0)) Bad ≡ Is q w → Used n b e q w
@@ -198,7 +198,7 @@ used-form n b s g byte =
     let read : recordAt part 0 ≡ RecordIs w = record-complete part 0 r z (g .sound) held in
     let fit : fitsWhole n b part w ≡ true = sym (found-fits n b part byte′ 0 w r z read (g .sound) held) ∙ g .fit in
     let behind : drop (0 + length (encode r)) part ≡ z = ap (λ (k : ℕ). drop k part) (zero-add (length (encode r))) ∙ ap (drop (length (encode r))) held ∙ drop-append-seam (encode r) z in
-    let blank : zeros (drop (w .next) part) ≡ true = ap zeros behind ∙ replicate-zeros (recordBytes - length (encode r)) in
+    let blank : zeros (drop (w .next .at) part) ≡ true = ap zeros behind ∙ replicate-zeros (recordBytes - length (encode r)) in
     ap (λ (t : Bool). cond t (formBy n b (eqb (getD e 0 0) 1) part (recordAt part 0)) Bad) (front-good s (g .none-if-lost))
     ∙ ap (formBy n b (eqb (getD e 0 0) 1) part) read
     ∙ ap (λ (t : Bool). cond t (Is (r .sequence) (eqb (getD e 0 0) 1)) Bad) (and-eq-true-iff _ _ .1 (fit, blank))

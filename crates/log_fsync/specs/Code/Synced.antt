@@ -15,6 +15,7 @@ use Rattle.log.specs.Change.{waitingOf, note, discard}
 use Rattle.log.specs.Sends.{applying, applyAll, sentAll}
 use Rattle.log_fsync.specs.declared.Synced.{Synced}
 use Rattle.log_fsync.specs.declared.Synced.the-variants.{Sent, Stopped, Lost}
+use Rattle.log_fsync.specs.Answer.{sendsMade}
 
 -- "It needs d sends: all waiting operations with that object as operand and their predecessors, in issue order."
 abbrev pub neededIn : ℕ → Log → List Record
@@ -25,12 +26,6 @@ neededIn o l = needed o (waitingOf (l .slots))
 unfoldable pub syncResult : ℕ → List Record → Volume → Synced
 syncResult k need v =
     cond (ltb (applying (take k need) v) (length (take k need))) (Stopped (applying (take k need) v)) (cond (leb (length need) k) (Sent (length need)) (Lost k))
-
--- how many were sent
-abbrev pub sendsMade : Synced → ℕ
-sendsMade (Sent d) = d
-sendsMade (Stopped d) = d
-sendsMade (Lost d) = d
 
 -- the log after them: dependence is noted unless an operation did not apply, and what the link did not carry is discarded
 abbrev pub syncedLog : ℕ → ℕ → List Record → Log → Synced → Log

@@ -166,13 +166,13 @@ module _ (s : List ℕ) (r : Record) (rest : List ℕ) (good : valid r ≡ true)
   passed h p o q e f = named (namesAt (h .map) s (q .at)) refl (rw (e, f) at whole)
     where
       answer : Names → Range → Place → Reading
-      answer n g t = cond (tiedAt (h .map) o g) (RecordIs (record { head = h; objects = o; names = n; range = g; next = t .at })) NoRecord
+      answer n g t = cond (tiedAt (h .map) o g) (RecordIs (record { head = h; objects = o; names = n; range = g; next = t })) NoRecord
 
       tied : (n : Names) (u : Place) (g : Range) (t : Place) → namesAt (h .map) s (q .at) ≡ NamesAre n u → rangeAt (h .map) s (u .at) ≡ RangeIs g t
-          → (b : Bool) → cond b (RecordIs (record { head = h; objects = o; names = n; range = g; next = t .at })) NoRecord ≡ RecordIs (wholeOf r 0) → Passed s (r .operation) h o q
+          → (b : Bool) → cond b (RecordIs (record { head = h; objects = o; names = n; range = g; next = t })) NoRecord ≡ RecordIs (wholeOf r 0) → Passed s (r .operation) h o q
       tied n u g t en eg false w = absurd (refused-record w)
       tied n u g t en eg true w =
-          let z : record { head = h; objects = o; names = n; range = g; next = t .at } ≡ wholeOf r 0 = cc in
+          let z : record { head = h; objects = o; names = n; range = g; next = t } ≡ wholeOf r 0 = cc in
           let m : h .map ≡ mapOf (r .operation) = ap (λ (y : Whole). y .head .map) z in
           let x = early s (h .map) (q .at) n u g t (rw m (one-group (r .operation))) en eg in
           record {

@@ -29,7 +29,7 @@ returns c =
 
 slice-aggregate-put-bytes : tie.Need-slice-aggregate-put-bytes
 slice-aggregate-put-bytes c =
-    let x = c .before .before .before in
+    let x = c .before .before .before .before in
     let k = x .before .before in
     let y = k .before in
     let t = y .before .before .before in
@@ -38,7 +38,7 @@ slice-aggregate-put-bytes c =
 
 put-bytes-requires : tie.Need-put-bytes-requires
 put-bytes-requires c κs =
-    let x = c .before .before .before in
+    let x = c .before .before .before .before in
     let k = x .before .before in
     let y = k .before in
     let t = y .before .before .before in
@@ -52,7 +52,7 @@ same-length c = search needs
 returns-2 : tie.Need-returns-2
 returns-2 c =
     let z = c .before .before in
-    let x = z .before .before .before .before in
+    let x = z .before .before .before .before .before in
     let k = x .before .before in
     let y = k .before in
     let t = y .before .before .before in

@@ -35,18 +35,18 @@ module _ (s : List ℕ) (u : Slotted s) (i : ℕ) (lt : i < length (slotsIn s)) 
   record-there = held-there t (slotAt (slotsIn s) i .recorded) _ (record-valid s u i lt) h
 
   module _ (w : Whole) (q : RecordIs w ≡ recordAt t 0) where
-    loss-bytes : take (w .next) t ≡ encode (slotAt (slotsIn s) i .recorded)
+    loss-bytes : take (w .next .at) t ≡ encode (slotAt (slotsIn s) i .recorded)
     loss-bytes = held-bytes t (slotAt (slotsIn s) i .recorded) _ (record-valid s u i lt) h w q
 
     -- The bytes up to the place after it are so many, and fit where its longest would.
-    pub loss-next : w .next ≡ length (take (w .next) t)
+    pub loss-next : w .next .at ≡ length (take (w .next .at) t)
     loss-next = held-next t (slotAt (slotsIn s) i .recorded) _ (record-valid s u i lt) h w q ∙ sym (ap length loss-bytes)
 
-    pub loss-most : length (take (w .next) t) ≤ recordBytes
+    pub loss-most : length (take (w .next .at) t) ≤ recordBytes
     loss-most = rw loss-bytes (encode-length (slotAt (slotsIn s) i .recorded) (record-valid s u i lt) .1)
 
     -- Putting these bytes is writing the record.
-    pub loss-written : {x y : List ℕ} {z : ℕ} → Put (take (w .next) t) 0 x y z → Written (slotAt (slotsIn s) i .recorded) x y z
+    pub loss-written : {x y : List ℕ} {z : ℕ} → Put (take (w .next .at) t) 0 x y z → Written (slotAt (slotsIn s) i .recorded) x y z
     loss-written p = record { placed = rw loss-bytes at (p .placed); long = omega (arith, p .ends, ap length loss-bytes) }
 
 -- Good slots without one of them are good, and one fewer.

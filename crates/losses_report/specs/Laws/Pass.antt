@@ -77,12 +77,12 @@ pub line-read : (s : List ℕ) (at : ℕ) (w : Whole) (x : ReadAt s at w) → li
 unfolding wholeOf
 line-read s at w x = ap (λ (v : Whole). line (v .head .sequence) (v .head .program) (codeOf (v .head .kind))) (x .answer)
 
-pub next-read : (s : List ℕ) (at : ℕ) (w : Whole) (x : ReadAt s at w) → w .next ≡ at + length (encode (x .found))
+pub next-read : (s : List ℕ) (at : ℕ) (w : Whole) (x : ReadAt s at w) → w .next .at ≡ at + length (encode (x .found))
 unfolding wholeOf
-next-read s at w x = ap (λ (v : Whole). v .next) (x .answer)
+next-read s at w x = ap (λ (v : Whole). v .next .at) (x .answer)
 
 -- a record that is read lies in the bytes, and has at least 8 of them
-pub next-within : (s : List ℕ) (at : ℕ) (w : Whole) → at ≤ length s → ReadAt s at w → (at + 8 ≤ w .next) × (w .next ≤ length s)
+pub next-within : (s : List ℕ) (at : ℕ) (w : Whole) → at ≤ length s → ReadAt s at w → (at + 8 ≤ w .next .at) × (w .next .at ≤ length s)
 next-within s at w h x =
     let n = next-read s at w x in
     let l : length s - at ≡ length (encode (x .found)) + length (x .rest) =
@@ -90,7 +90,7 @@ next-within s at w h x =
     let e = encode-length (x .found) (x .good) in
     (omega arith, omega arith)
 
-pub rest-read : (s : List ℕ) (at : ℕ) (w : Whole) (x : ReadAt s at w) → drop (w .next) s ≡ x .rest
+pub rest-read : (s : List ℕ) (at : ℕ) (w : Whole) (x : ReadAt s at w) → drop (w .next .at) s ≡ x .rest
 rest-read s at w x =
     ap (λ (n : ℕ). drop n s) (next-read s at w x) ∙ sym (drop-drop (length (encode (x .found))) at s)
     ∙ ap (drop (length (encode (x .found)))) (x .begins) ∙ drop-append-seam (encode (x .found)) (x .rest)
@@ -134,7 +134,7 @@ module _ (s : List ℕ) (base : ℕ) (ended : Bool) (before : List ℕ) where
 
     -- one record and its line further
     pub begun-line : (w : Whole) → ReadAt s at w → Decides ended (drop at s) → (to' : ℕ) (out' : List ℕ) → length out' ≡ length out →
-        Put (line (w .head .sequence) (w .head .program) (codeOf (w .head .kind))) to out out' to' → Begun s base ended before (w .next) to' out'
+        Put (line (w .head .sequence) (w .head .program) (codeOf (w .head .kind))) to out out' to' → Begun s base ended before (w .next .at) to' out'
     begun-line w x d to' out' l p =
         let m = next-read s at w x in
         let q : Put (lineOf (x .found)) to out out' to' = rw (line-read s at w x) at p in
@@ -146,12 +146,12 @@ module _ (s : List ℕ) (base : ℕ) (ended : Bool) (before : List ℕ) where
           few = omega (arith, q .ends, line-of-short (x .found) (x .good), next-within s at w (b .within) x, b .few);
           goes =
               λ state c t p.
-              let a : base + w .next ≡ base + at + length (encode (x .found)) = omega arith in
+              let a : base + w .next .at ≡ base + at + length (encode (x .found)) = omega arith in
               let q : Pass ended (base + at + length (encode (x .found))) (x .rest) state c t = rw (a, rest-read s at w x) at p in
               let dd : Decides ended (encode (x .found) ++ x .rest) = rw (x .begins) at d in
               let u : Pass ended (base + at) (encode (x .found) ++ x .rest) state (length (encode (x .found)) + c) (lineOf (x .found) ++ t) = told (x .found) (x .good) dd q in
               let v : Pass ended (base + at) (drop at s) state (length (encode (x .found)) + c) (lineOf (x .found) ++ t) = rw (x .begins) u in
-              let f : w .next + c ≡ at + (length (encode (x .found)) + c) = omega arith in
+              let f : w .next .at + c ≡ at + (length (encode (x .found)) + c) = omega arith in
               rw (f, append-assoc) (b .goes state (length (encode (x .found)) + c) (lineOf (x .found) ++ t) v);
         }
 

@@ -146,4 +146,4 @@ recordAt s at =
     afterObjects (objectsAt (h .map) s (p .at)) (λ o q.
     afterNames (namesAt (h .map) s (q .at)) (λ n r.
     afterRange (rangeAt (h .map) s (r .at)) (λ g t.
-    cond (tiedAt (h .map) o g) (RecordIs (record { head = h; objects = o; names = n; range = g; next = t .at })) NoRecord))))
+    cond (tiedAt (h .map) o g) (RecordIs (record { head = h; objects = o; names = n; range = g; next = t })) NoRecord))))

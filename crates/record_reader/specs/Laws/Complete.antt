@@ -233,6 +233,6 @@ module _ (s : List ℕ) (at : ℕ) where
         objects = objectsIn m x;
         names = namesIn m x (at + 8 + length fo);
         range = rangeIn m x (at + 8 + length fo + length fn);
-        next = k;
+        next = record { at = k };
       }))
       l)

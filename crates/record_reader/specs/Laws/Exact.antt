@@ -31,7 +31,7 @@ exact s byte at = go (recordAt s at) refl
     go : (x : Reading) → recordAt s at ≡ x → Exact s at x
     go (RecordIs w) e =
         let f = record-sound s byte at w e in
-        subst (λ (y : Whole). Exact s at (RecordIs y)) (f .answered) (read (f .found) (drop (w .next) s) (f .good) (f .spans .begins))
+        subst (λ (y : Whole). Exact s at (RecordIs y)) (f .answered) (read (f .found) (drop (w .next .at) s) (f .good) (f .spans .begins))
     go NoRecord e =
         refused (λ r rest h d. let c : NoRecord ≡ RecordIs (wholeOf r at) = sym e ∙ record-complete s at r rest h d in let z : _≡_ {A = ℕ} 0 1 = cc in omega arith)
 
@@ -109,7 +109,7 @@ encode-decode s byte at r e = go (recordAt s at) refl e
     go NoRecord f d = let z : _≡_ {A = ℕ} 0 1 = cc in absurd (omega arith)
     go (RecordIs w) f d =
         let g = record-sound s byte at w f in
-        let back : recordFrom s w ≡ g .found = ap (recordFrom s) (sym (g .answered)) ∙ record-back s at (g .found) (drop (w .next) s) (g .good) (g .spans .begins) in
+        let back : recordFrom s w ≡ g .found = ap (recordFrom s) (sym (g .answered)) ∙ record-back s at (g .found) (drop (w .next .at) s) (g .good) (g .spans .begins) in
         let same : recordFrom s w ≡ r = cc in
         let is : g .found ≡ r = sym back ∙ same in
-        (subst (λ (y : Record). valid y ≡ true) is (g .good), (drop (w .next) s, subst (λ (y : Record). drop at s ≡ encode y ++ drop (w .next) s) is (g .spans .begins)))
+        (subst (λ (y : Record). valid y ≡ true) is (g .good), (drop (w .next .at) s, subst (λ (y : Record). drop at s ≡ encode y ++ drop (w .next .at) s) is (g .spans .begins)))

@@ -92,11 +92,11 @@ pub fits-read : (s : List ℕ) → Bytes s → (at n b : ℕ) (w : Whole) → re
 unfolding fitsWhole
 fits-read s byte at n b w e =
     let f = record-sound s byte at w e in
-    let d : decodeAt s at ≡ some (f .found) = decode-encode s at (f .found) (drop (w .next) s) (f .good) (f .spans .begins) in
+    let d : decodeAt s at ≡ some (f .found) = decode-encode s at (f .found) (drop (w .next .at) s) (f .good) (f .spans .begins) in
     ap (fitsDecoded n b) d
     ∙ subst
     (λ (y : Whole).
     fits n b (f .found)
     ≡ objectsBelow n (y .head .map) (y .objects) && (allBelow n (objectsOf (stretch s (y .range .list))) && withinBlocks b (y .range .offset) (y .range .content .len)))
     (f .answered)
-    (fits-there s at n b (f .found) (drop (w .next) s) (f .good) (f .spans .begins))
+    (fits-there s at n b (f .found) (drop (w .next .at) s) (f .good) (f .spans .begins))

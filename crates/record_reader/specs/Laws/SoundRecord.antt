@@ -268,7 +268,7 @@ agree k m x h = go (eqb m (mapOfKind k)) (eqb m (displacingMapOf k)) refl refl h
 pub record Sound (s : List ℕ) (at : ℕ) (w : Whole) : Type 0 where
   pub found : Record
   pub good : valid found ≡ true
-  pub spans : Spans s at (encode found) (w .next)
+  pub spans : Spans s at (encode found) (w .next .at)
   pub answered : wholeOf found at ≡ w
 
 after-head-inv : (f : Headed) (g : Head → Place → Reading) (w : Whole) → afterHead f g ≡ RecordIs w → (h : Head) × (p : Place) × (f ≡ HeadIs h p) × (g h p ≡ RecordIs w)
@@ -291,7 +291,7 @@ module _ (s : List ℕ) (byte : Bytes s) (at : ℕ) where
   -- a head and three groups of fields that were read one after the other, and are tied as they must be
   joined-sound : (h : Head) (p : Place) (o : Objects) (q : Place) (n : Names) (r : Place) (g : Range) (t : Place)
       → HeadRead s byte at h p → ObjectsRead s byte (h .map) (p .at) o q → NamesRead s byte (h .map) (q .at) n r → RangeRead s byte (h .map) (r .at) g t
-      → tiedAt (h .map) o g ≡ true → Sound s at (record { head = h; objects = o; names = n; range = g; next = t .at })
+      → tiedAt (h .map) o g ≡ true → Sound s at (record { head = h; objects = o; names = n; range = g; next = t })
   unfolding encode valid validParts tied tiedAt fields wholeOf
   joined-sound h p o q n r g t hr or nr gr ti =
       let m = h .map in
@@ -342,7 +342,7 @@ module _ (s : List ℕ) (byte : Bytes s) (at : ℕ) where
               objects = objects i;
               names = names i;
               range = range i;
-              next = sym (spans .after) i;
+              next = record { at = sym (spans .after) i };
             };
       }
 
@@ -360,8 +360,8 @@ module _ (s : List ℕ) (byte : Bytes s) (at : ℕ) where
     where
       last : (h : Head) (p : Place) (o : Objects) (q : Place) (n : Names) (r : Place) (g : Range) (t : Place)
           → HeadRead s byte at h p → ObjectsRead s byte (h .map) (p .at) o q → NamesRead s byte (h .map) (q .at) n r → RangeRead s byte (h .map) (r .at) g t
-          → (b : Bool) → tiedAt (h .map) o g ≡ b → cond b (RecordIs (record { head = h; objects = o; names = n; range = g; next = t .at })) NoRecord ≡ RecordIs w → Sound s at w
+          → (b : Bool) → tiedAt (h .map) o g ≡ b → cond b (RecordIs (record { head = h; objects = o; names = n; range = g; next = t })) NoRecord ≡ RecordIs w → Sound s at w
       last h p o q n r g t hr or nr gr true ti l =
-          let ew : record { head = h; objects = o; names = n; range = g; next = t .at } ≡ w = cc in
+          let ew : record { head = h; objects = o; names = n; range = g; next = t } ≡ w = cc in
           subst (λ (y : Whole). Sound s at y) ew (joined-sound h p o q n r g t hr or nr gr ti)
       last h p o q n r g t hr or nr gr false ti l = let z : _≡_ {A = ℕ} 0 1 = cc in absurd (omega arith)

@@ -15,15 +15,11 @@ use Rattle.names.specs.Laws.Name.{fine-valid}
 use Rattle.record.specs.Operation.{Operation}
 use Rattle.record.specs.Fields.{validList, different, allUpTo, allBelow, objectsOf}
 use Rattle.record.specs.Laws.List.{count-objects}
-use Rattle.buffer.specs.Patch.{patch}
-use Rattle.volume_entry.specs.Entry.{Entry, root, isUsed, isFile, isDirectory, kindNumber, contentsOf, refilled}
-use Rattle.volume_entry.specs.Laws.Entry.{refilled-kind, refilled-contents}
-use Rattle.volume_entry.specs.Laws.Field.{alike-file}
-use Rattle.volume_entry.specs.Laws.Write.{length-patch}
+use Rattle.volume_entry.specs.Entry.{Entry, root, isUsed, isFile, isDirectory, kindNumber, contentsOf}
 use Rattle.volume_tree.specs.Volume.{Volume, entryAt, search, hasChildren, isChild, isNamed}
 use Rattle.volume_tree.specs.Laws.Form.{well-formed-inv, lowest-some}
-use Rattle.volume_tree.specs.Laws.Search.{entry-set-same}
 use Rattle.volume_apply.specs.Apply.{applies, apply, isAbsent, isAt, hasRoom, yields}
+use Rattle.volume_apply.specs.Laws.Apply.{overwritten-file}
 use Rattle.log.specs.Order.{any}
 use Rattle.session.specs.Call.{Geometry, Call, createFile, makeDirectory, rename, write, setLength, forder, inRange}
 use Rattle.session.specs.Refusal.{Row}
@@ -203,16 +199,6 @@ module _ (g : Geometry) (x : Model) (s : Sound g x) where
   append-fit v o len [] isf at r = tt
   append-fit v o len (a ∷ u) isf at r =
       (rw (isf, eq-eqb len (length (contentsOf (entryAt v o))) at), append-recordable (g .objects) (g .blocks) few (blocks-few g (s .range)) o len (a ∷ u) (r (omega arith)), tt)
-
-  -- an overwrite leaves a file of the same length
-  overwritten-file : (v : Volume) (o f : ℕ) (t : List ℕ) → o < length v → isFile (entryAt v o) ≡ true → f + length t ≤ length (contentsOf (entryAt v o))
-      → (isFile (entryAt (apply v (Operation.overwrite o f t)) o) ≡ true) × (length (contentsOf (entryAt v o)) ≡ length (contentsOf (entryAt (apply v (Operation.overwrite o f t)) o)))
-  unfolding apply
-  overwritten-file v o f t there isf h =
-      let e = entryAt v o in
-      let c = patch (contentsOf e) f t in
-      let is = entry-set-same v o (refilled e c) there in
-      (ap isFile is ∙ alike-file (refilled e c) e (refilled-kind e c) ∙ isf, sym (ap (λ (x : Entry). length (contentsOf x)) is ∙ ap length (refilled-contents e c isf) ∙ length-patch (contentsOf e) f t h))
 
   -- an accepted write: an overwrite of the bytes up to the length, and then an append of the rest
   writes-fit : (o f : ℕ) (d : List ℕ) → 1 ≤ o → o < g .objects → isFile (entryAt (x .view) o) ≡ true

@@ -1,14 +1,14 @@
 -- Forder as a change: its table, and what it issues where its table lets it pass. Assumes nothing.
 use Prim.Native.Nat.{ℕ, _%_}
-use mathlib.Core.Path.{_≡_, refl, sym, _∙_}
+use mathlib.Core.Path.{_≡_, refl, sym, ap, _∙_}
 use mathlib.Core.List.{List, [], _∷_}
 use lib.ListN.{length}
 use Rattle.record.specs.Operation.{Operation}
 use Rattle.record.specs.Fields.{objectsOf}
 use Rattle.record_writer.specs.Code.Writer.{forderRecord}
-use Rattle.volume_tree.specs.Stored.{readVolume}
+use Rattle.volume_tree.specs.Stored.{encodeVolume, readVolume}
 use Rattle.volume_tree.specs.Code.Lent.{Formed}
-use Rattle.volume_apply.specs.Apply.{apply}
+use Rattle.volume_apply.specs.Laws.Apply.{apply-forder}
 use Rattle.log.specs.Stored.{readLog}
 use Rattle.log_draft.specs.Code.Issued.{Waits, Issued}
 use Rattle.session.specs.Class
@@ -48,5 +48,6 @@ module _ {n b m : ℕ} {s v l : List ℕ} (h : Admitted n b m s v l) (p : ℕ) w
 -- The log's part of an issued forder is all of it: the view tells of the same volume.
 pub forder-issued : {n b m : ℕ} {v : List ℕ} → Formed n b v → (q p x : ℕ) (d log l : List ℕ)
     → Waits m x log (readLog m l) (forderRecord q p d) → Issued n b m x log v (readVolume n b v) (readLog m l) (forderRecord q p d)
-unfolding forderRecord apply
-forder-issued f q p x d log l w = record { gives = w .gives; log = w .log; view = sym (f .stored) }
+unfolding forderRecord
+forder-issued {n} {b} {v = v} f q p x d log l w =
+    record { gives = w .gives; log = w .log; view = sym (f .stored) ∙ ap (encodeVolume b) (sym (apply-forder (readVolume n b v) (objectsOf d))) }

@@ -1,12 +1,20 @@
 -- `session_fsync::fsync` meets its contract. Assumes nothing.
-use mathlib.Core.Path.{_≡_, sym, _∙_, subst}
+use native.Mathlib.Omega.{arith}
+use mathlib.Core.Path.{_≡_, refl, sym, ap, _∙_}
+use mathlib.Core.List.{List, [], _∷_}
+use mathlib.Core.Logic.{⊎-elim}
+use Prim.Native.Nat.{ℕ}
 use lib.ListN.{length}
 use Rattle.volume_tree.specs.Stored.{readVolume}
 use Rattle.log.specs.Stored.{readLog}
-use Rattle.log_fsync.specs.Code.Synced.{SyncLeaves}
+use types.Run.{OneOf}
+use denote.Enum.Declared.{tagOf}
+use Rattle.log_fsync.proofs.Synced.{the-type}
+use Rattle.log_fsync.specs.declared.Synced.{Synced}
+use Rattle.log_fsync.specs.declared.Synced.the-variants.{Sent, Stopped, Lost}
 use Rattle.session.specs.Call.{geometry, buffers, fsync}
 use Rattle.session_admission.specs.Laws.Admitted.{not-admitted, admitted}
-use Rattle.session_fsync.specs.Laws.Sync.{sync-refused, sync-small, sync-sent, sync-stopped, sync-lost}
+use Rattle.session_fsync.specs.Laws.Sync.{sync-refused, sync-small, followed, synced}
 use borrow.Author.Needs.{needs}
 use Rattle.session_fsync.proofs.fsync.Statement.{statement}
 use Rattle.session_fsync.proofs.fsync.Tie as tie
@@ -74,24 +82,12 @@ sync-object-requires c κs =
     let h = admitted (a .n) (a .b) (a .m) (a .server .now) (a .view .now) (a .log .now) (sym (t .before .admit .ensures) ∙ t .if1 .left) in
     (h .server, (h .log, sync-small (a .n) (a .b) (a .m) (a .program) (a .object) (a .sends) (a .server .now) (a .view .now) (a .log .now) h (sym (at-if2 .if2 .left) ∙ at-sync-refusal .sync-refusal .ensures)))
 
-enum-known-count : tie.Need-enum-known-count
-enum-known-count c = search needs
-
-of-requires : tie.Need-of-requires
-of-requires c κs = search needs
-
-enum-known-count-2 : tie.Need-enum-known-count-2
-enum-known-count-2 c = search needs
-
-of-requires-2 : tie.Need-of-requires-2
-of-requires-2 c κs = search needs
-
-enum-known-count-3 : tie.Need-enum-known-count-3
-enum-known-count-3 c = search needs
+enum-told : tie.Need-enum-told
+enum-told c = search needs
 
 copy-volume-requires : tie.Need-copy-volume-requires
 copy-volume-requires c κs =
-    let at-sync-object = c .before .before .before .before .before .before .before .before .before in
+    let at-sync-object = c .before .before .before .before .before .before .before .before in
     let t = at-sync-object .before .before .before .before .before .before .before in
     let start = t .before .before .before .before .before .before .before .before in
     let a = start .args in
@@ -99,22 +95,28 @@ copy-volume-requires c κs =
     let same : length (at-sync-object .sync-object .last .0) ≡ length (a .server .now) = search needs in
     h .view .lent .whole ∙ sym (h .server .lent .whole) ∙ sym same
 
-of-requires-3 : tie.Need-of-requires-3
-of-requires-3 c κs = search needs
+value-of-requires : tie.Need-value-of-requires
+value-of-requires c κs = search needs
 
 same-length-7 : tie.Need-same-length-7
 same-length-7 c = search needs
 
 same-length-8 : tie.Need-same-length-8
-same-length-8 c = search needs
+same-length-8 c = ⊎-elim (λ x. ap length (x .7) ∙ x .4 .kept .0) (λ x. ap length (x .1)) (c .before .match .came)
 
 same-length-9 : tie.Need-same-length-9
 same-length-9 c = search needs
 
+-- an answer that is none of a lost link leaves the view
+kept : (r : Synced) (v s : List ℕ) → OneOf (0 ∷ 1 ∷ []) (tagOf the-type r) → v ≡ followed r v s
+kept (Sent d) v s e = refl
+kept (Stopped d) v s e = refl
+kept (Lost d) v s e = absurd (⊎-elim (λ f. omega arith) (λ f. omega arith) e)
+
 returns-3 : tie.Need-returns-3
 returns-3 c =
-    let at-count = c .before .before in
-    let at-sync-object = at-count .before .before .before .before .before .before in
+    let came = c .before in
+    let at-sync-object = came .before .before .before .before .before in
     let at-if2 = at-sync-object .before .before .before in
     let at-sync-refusal = at-if2 .before in
     let t = at-sync-refusal .before .before .before in
@@ -122,61 +124,14 @@ returns-3 c =
     let a = start .args in
     let h = admitted (a .n) (a .b) (a .m) (a .server .now) (a .view .now) (a .log .now) (sym (t .before .admit .ensures) ∙ t .if1 .left) in
     let g = at-sync-object .sync-object in
-    let d = at-count .count .given in
-    rw (c .of .ensures)
-    (sync-sent (a .n) (a .b) (a .m) (a .program) (a .object) (a .sends) (a .server .now) (a .view .now) (a .log .now) h (sym (at-if2 .if2 .left) ∙ at-sync-refusal .sync-refusal .ensures) (d .0 .0) (g .last .0) (g .last .1 .0)
-    (subst (SyncLeaves (a .b) (a .m) (a .program) (a .object) (a .sends) (readVolume (a .n) (a .b) (a .server .now)) (readLog (a .m) (a .log .now)) (g .last .0) (g .last .1 .0)) (d .1) (g .ensures)))
-
-same-length-10 : tie.Need-same-length-10
-same-length-10 c = search needs
-
-same-length-11 : tie.Need-same-length-11
-same-length-11 c = search needs
-
-same-length-12 : tie.Need-same-length-12
-same-length-12 c = search needs
-
-returns-4 : tie.Need-returns-4
-returns-4 c =
-    let at-count2 = c .before .before in
-    let at-sync-object = at-count2 .before .before .before .before .before .before in
-    let at-if2 = at-sync-object .before .before .before in
-    let at-sync-refusal = at-if2 .before in
-    let t = at-sync-refusal .before .before .before in
-    let start = t .before .before .before .before .before .before .before .before in
-    let a = start .args in
-    let h = admitted (a .n) (a .b) (a .m) (a .server .now) (a .view .now) (a .log .now) (sym (t .before .admit .ensures) ∙ t .if1 .left) in
-    let g = at-sync-object .sync-object in
-    let d = at-count2 .count2 .given in
-    rw (c .of2 .ensures)
-    (sync-stopped (a .n) (a .b) (a .m) (a .program) (a .object) (a .sends) (a .server .now) (a .view .now) (a .log .now) h (sym (at-if2 .if2 .left) ∙ at-sync-refusal .sync-refusal .ensures) (d .0 .0) (g .last .0) (g .last .1 .0)
-    (subst (SyncLeaves (a .b) (a .m) (a .program) (a .object) (a .sends) (readVolume (a .n) (a .b) (a .server .now)) (readLog (a .m) (a .log .now)) (g .last .0) (g .last .1 .0)) (d .1) (g .ensures)))
-
-same-length-13 : tie.Need-same-length-13
-same-length-13 c = search needs
-
-same-length-14 : tie.Need-same-length-14
-same-length-14 c = search needs
-
-same-length-15 : tie.Need-same-length-15
-same-length-15 c = search needs
-
-returns-5 : tie.Need-returns-5
-returns-5 c =
-    let at-copy-volume = c .before .before .before in
-    let at-count3 = at-copy-volume .before .before .before .before in
-    let at-sync-object = at-count3 .before .before .before .before .before .before in
-    let at-if2 = at-sync-object .before .before .before in
-    let at-sync-refusal = at-if2 .before in
-    let t = at-sync-refusal .before .before .before in
-    let start = t .before .before .before .before .before .before .before .before in
-    let a = start .args in
-    let h = admitted (a .n) (a .b) (a .m) (a .server .now) (a .view .now) (a .log .now) (sym (t .before .admit .ensures) ∙ t .if1 .left) in
-    let g = at-sync-object .sync-object in
-    let d = at-count3 .count3 .given in
-    rw (c .of3 .ensures, at-copy-volume .copy-volume .ensures)
-    (sync-lost (a .n) (a .b) (a .m) (a .program) (a .object) (a .sends) (a .server .now) (a .view .now) (a .log .now) h (sym (at-if2 .if2 .left) ∙ at-sync-refusal .sync-refusal .ensures) (d .0 .0) (g .last .0) (g .last .1 .0)
-    (subst (SyncLeaves (a .b) (a .m) (a .program) (a .object) (a .sends) (readVolume (a .n) (a .b) (a .server .now)) (readLog (a .m) (a .log .now)) (g .last .0) (g .last .1 .0)) (d .1) (g .ensures)))
+    let view : came .match .view ≡ followed (g .result) (a .view .now) (g .last .0) =
+    ⊎-elim
+    (λ x. x .7 ∙ x .4 .ensures ∙ ap (λ (r : Synced). followed r (a .view .now) (g .last .0)) (sym (x .1 .given .1)))
+    (λ x. x .1 ∙ kept (g .result) (a .view .now) (g .last .0) (x .0 .keys2))
+    (came .match .came) in
+    rw (c .value-of .ensures .0, c .value-of .ensures .1, view)
+    (synced (a .n) (a .b) (a .m) (a .program) (a .object) (a .sends) (a .server .now) (a .view .now) (a .log .now) h (sym (at-if2 .if2 .left) ∙ at-sync-refusal .sync-refusal .ensures)
+    (g .result) (g .last .0) (g .last .1 .0) (g .ensures))
 
 pub fsync-spec : {M : Type 1} → statement M
 fsync-spec =
@@ -195,22 +150,10 @@ fsync-spec =
     same-length-6
     returns-2
     sync-object-requires
-    enum-known-count
-    of-requires
-    enum-known-count-2
-    of-requires-2
-    enum-known-count-3
+    enum-told
     copy-volume-requires
-    of-requires-3
+    value-of-requires
     same-length-7
     same-length-8
     same-length-9
-    returns-3
-    same-length-10
-    same-length-11
-    same-length-12
-    returns-4
-    same-length-13
-    same-length-14
-    same-length-15
-    returns-5)
+    returns-3)

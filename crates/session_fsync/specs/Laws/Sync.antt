@@ -23,6 +23,7 @@ use Rattle.log.specs.Laws.Change.{note-good, noted-waiting, waiting-in-order}
 use Rattle.log.specs.Sends.{applying, applyAll, sentAll}
 use Rattle.log_fsync.specs.declared.Synced.{Synced}
 use Rattle.log_fsync.specs.declared.Synced.the-variants.{Sent, Stopped, Lost}
+use Rattle.log_fsync.specs.Answer.{syncedNumber, sendsMade}
 use Rattle.log_fsync.specs.Code.Synced.{neededIn, syncResult, SyncLeaves}
 use Rattle.session.specs.Call.{geometry, buffers, fsync, Answer, answer, refusal}
 use Rattle.session.specs.Refusal.{Row}
@@ -46,10 +47,14 @@ performed-behind [] fs x = refl
 performed-behind (e ∷ es) fs x = performed-behind es fs (perform e x)
 
 -- the answer for what became of the sends
-abbrev pub resultAnswer : Synced → Answer
-resultAnswer (Sent d) = answer Returned.accepted (d ∷ []) []
-resultAnswer (Stopped d) = answer Returned.damaged (d ∷ []) []
-resultAnswer (Lost d) = answer Returned.linkLost (d ∷ []) []
+abbrev resultAnswer : Synced → Answer
+resultAnswer r = answer (syncedNumber r) (sendsMade r ∷ []) []
+
+-- the view after the sends: it stays, but for a cut, which copies the server to it
+abbrev pub followed : Synced → List ℕ → List ℕ → List ℕ
+followed (Sent d) v s = v
+followed (Stopped d) v s = v
+followed (Lost d) v s = s
 
 module _ (k : ℕ) (need : List Record) (v : Volume) where
   sync-answers : syncAnswer k need v ≡ resultAnswer (syncResult k need v)
@@ -141,7 +146,7 @@ module _ (n b m p o k : ℕ) (s v l : List ℕ) (h : Admitted n b m s v l) where
         some-sent d noted (note-good n b m p (o ∷ []) (readLog m l) (sync-small .0) (h .log .form)) (noted-waiting p (o ∷ []) (readLog m l .slots))
 
     -- "If k is at least d it sends d".
-    pub sync-sent : (d : ℕ) (s′ l′ : List ℕ) → SyncLeaves b m p o k (readVolume n b s) (readLog m l) s′ l′ (Sent d)
+    sync-sent : (d : ℕ) (s′ l′ : List ℕ) → SyncLeaves b m p o k (readVolume n b s) (readLog m l) s′ l′ (Sent d)
         → given 0 (d ∷ []) [] (buffers s′ v l′) ≡ step (geometry n b m) (fsync p o k) (buffers s v l)
     unfolding performAll perform effectsOf
     sync-sent d s′ l′ y =
@@ -154,7 +159,7 @@ module _ (n b m p o k : ℕ) (s v l : List ℕ) (h : Admitted n b m s v l) where
         ∙ (λ i. record { gives = answer 0 (d ∷ []) []; leaves = buffers (sym (y .sentTo) i) (h .view .stored i) (sym (y .leaves) i) }))
 
     -- "An fsync whose bad operation is among the first k gives 2 without a cut, keeps the sends before it and reports them".
-    pub sync-stopped : (d : ℕ) (s′ l′ : List ℕ) → SyncLeaves b m p o k (readVolume n b s) (readLog m l) s′ l′ (Stopped d)
+    sync-stopped : (d : ℕ) (s′ l′ : List ℕ) → SyncLeaves b m p o k (readVolume n b s) (readLog m l) s′ l′ (Stopped d)
         → given 2 (d ∷ []) [] (buffers s′ v l′) ≡ step (geometry n b m) (fsync p o k) (buffers s v l)
     unfolding effectsOf
     sync-stopped d s′ l′ y =
@@ -164,7 +169,7 @@ module _ (n b m p o k : ℕ) (s v l : List ℕ) (h : Admitted n b m s v l) where
         ∙ (λ i. record { gives = answer 2 (d ∷ []) []; leaves = buffers (sym (y .sentTo) i) (h .view .stored i) (sym (y .leaves) i) }))
 
     -- Refusal 17 "sends the first k, then cuts, and reports k": the view is the server as it is then.
-    pub sync-lost : (d : ℕ) (s′ l′ : List ℕ) → SyncLeaves b m p o k (readVolume n b s) (readLog m l) s′ l′ (Lost d)
+    sync-lost : (d : ℕ) (s′ l′ : List ℕ) → SyncLeaves b m p o k (readVolume n b s) (readLog m l) s′ l′ (Lost d)
         → given 17 (d ∷ []) [] (buffers s′ s′ l′) ≡ step (geometry n b m) (fsync p o k) (buffers s v l)
     unfolding performAll perform effectsOf
     sync-lost d s′ l′ y =
@@ -176,3 +181,10 @@ module _ (n b m p o k : ℕ) (s v l : List ℕ) (h : Admitted n b m s v l) where
         ∙ ap (λ (z : Model). record { gives = answer 17 (d ∷ []) []; leaves = encodeModel (geometry n b m) z })
         (performed-behind (sends (ListN.take d need)) (discard ∷ []) noted ∙ ap (perform discard) (noted-sent d))
         ∙ (λ i. record { gives = answer 17 (d ∷ []) []; leaves = buffers (sym (y .sentTo) i) (sym (y .sentTo) i) (sym (y .leaves) i) }))
+
+    -- What became of the sends, with the view that follows.
+    pub synced : (r : Synced) (s′ l′ : List ℕ) → SyncLeaves b m p o k (readVolume n b s) (readLog m l) s′ l′ r
+        → given (syncedNumber r) (sendsMade r ∷ []) [] (buffers s′ (followed r v s′) l′) ≡ step (geometry n b m) (fsync p o k) (buffers s v l)
+    synced (Sent d) = sync-sent d
+    synced (Stopped d) = sync-stopped d
+    synced (Lost d) = sync-lost d

@@ -1,5 +1,5 @@
 -- `session_push::push` meets its contract. Assumes nothing.
-use mathlib.Core.Path.{sym, _∙_, subst}
+use mathlib.Core.Path.{ap, sym, _∙_, subst}
 use mathlib.Core.Bool.{and-eq-true-iff}
 use lib.Dec.{eqb}
 use Rattle.volume_tree.specs.Stored.{readVolume}
@@ -8,6 +8,7 @@ use Rattle.log.specs.Stored.{readLog}
 use Rattle.log.specs.Change.{isSequence}
 use Rattle.log.specs.Code.Slots.{slotAt}
 use Rattle.log_find.specs.declared.Position.the-variants.{At}
+use Rattle.log_find.specs.Position.{soughtNumber}
 use Rattle.log_find.specs.Code.Found.{FoundBy}
 use Rattle.log_push.specs.Code.Pushed.{Pushed}
 use Rattle.session.specs.Call.{geometry, buffers, push}
@@ -49,11 +50,14 @@ waiting-in-requires c κs =
 enum-told : tie.Need-enum-told
 enum-told c = search needs
 
+sought-requires : tie.Need-sought-requires
+sought-requires c κs = search needs
+
 of-requires-2 : tie.Need-of-requires-2
 of-requires-2 c κs = search needs
 
-enum-known-i : tie.Need-enum-known-i
-enum-known-i c = search needs
+enum-known-found : tie.Need-enum-known-found
+enum-known-found c = search needs
 
 is-behind-requires : tie.Need-is-behind-requires
 is-behind-requires c κs =
@@ -63,8 +67,8 @@ is-behind-requires c κs =
     let start = t .before .before .before .before .before .before .before in
     let a = start .args in
     let h = admitted (a .n) (a .b) (a .m) (a .server .now) (a .view .now) (a .log .now) (sym (t .before .admit .ensures) ∙ t .if1 .left) in
-    let f : FoundBy (isSequence (a .sequence)) (readLog (a .m) (a .log .now) .slots) (At (j .i .given .0 .0)) =
-    subst (FoundBy (isSequence (a .sequence)) (readLog (a .m) (a .log .now) .slots)) (j .i .given .1) (at-waiting-in .waiting-in .ensures) in
+    let f : FoundBy (isSequence (a .sequence)) (readLog (a .m) (a .log .now) .slots) (At (j .found .given .0 .0)) =
+    subst (FoundBy (isSequence (a .sequence)) (readLog (a .m) (a .log .now) .slots)) (j .found .given .1) (at-waiting-in .waiting-in .ensures) in
     (logged-most (a .n) (a .b) (a .m) (a .log .now) (h .log), f .0)
 
 of-requires-3 : tie.Need-of-requires-3
@@ -85,9 +89,9 @@ returns-2 c =
     let start = t .before .before .before .before .before .before .before in
     let a = start .args in
     let h = admitted (a .n) (a .b) (a .m) (a .server .now) (a .view .now) (a .log .now) (sym (t .before .admit .ensures) ∙ t .if1 .left) in
-    let f : FoundBy (isSequence (a .sequence)) (readLog (a .m) (a .log .now) .slots) (At (j .i .given .0 .0)) =
-    subst (FoundBy (isSequence (a .sequence)) (readLog (a .m) (a .log .now) .slots)) (j .i .given .1) (at-waiting-in .waiting-in .ensures) in
-    rw (c .of3 .ensures) (push-behind (a .n) (a .b) (a .m) (a .sequence) (a .server .now) (a .view .now) (a .log .now) h (j .i .given .0 .0) f (sym (at-is-behind .is-behind .ensures) ∙ c .before .if2 .taken))
+    let f : FoundBy (isSequence (a .sequence)) (readLog (a .m) (a .log .now) .slots) (At (j .found .given .0 .0)) =
+    subst (FoundBy (isSequence (a .sequence)) (readLog (a .m) (a .log .now) .slots)) (j .found .given .1) (at-waiting-in .waiting-in .ensures) in
+    rw (c .of3 .ensures) (push-behind (a .n) (a .b) (a .m) (a .sequence) (a .server .now) (a .view .now) (a .log .now) h (j .found .given .0 .0) f (sym (at-is-behind .is-behind .ensures) ∙ c .before .if2 .taken))
 
 push-requires : tie.Need-push-requires
 push-requires c κs =
@@ -97,9 +101,9 @@ push-requires c κs =
     let start = t .before .before .before .before .before .before .before in
     let a = start .args in
     let h = admitted (a .n) (a .b) (a .m) (a .server .now) (a .view .now) (a .log .now) (sym (t .before .admit .ensures) ∙ t .if1 .left) in
-    let f : FoundBy (isSequence (a .sequence)) (readLog (a .m) (a .log .now) .slots) (At (j .i .given .0 .0)) =
-    subst (FoundBy (isSequence (a .sequence)) (readLog (a .m) (a .log .now) .slots)) (j .i .given .1) (at-waiting-in .waiting-in .ensures) in
-    let x = slotAt (readLog (a .m) (a .log .now) .slots) (j .i .given .0 .0) in
+    let f : FoundBy (isSequence (a .sequence)) (readLog (a .m) (a .log .now) .slots) (At (j .found .given .0 .0)) =
+    subst (FoundBy (isSequence (a .sequence)) (readLog (a .m) (a .log .now) .slots)) (j .found .given .1) (at-waiting-in .waiting-in .ensures) in
+    let x = slotAt (readLog (a .m) (a .log .now) .slots) (j .found .given .0 .0) in
     (h .server, (h .log, (f .0, and-eq-true-iff (isWaiting x) (eqb (sequenceOf x) (a .sequence)) .0 (f .1) .0)))
 
 of-requires-4 : tie.Need-of-requires-4
@@ -122,9 +126,9 @@ returns-3 c =
     let start = t .before .before .before .before .before .before .before in
     let a = start .args in
     let h = admitted (a .n) (a .b) (a .m) (a .server .now) (a .view .now) (a .log .now) (sym (t .before .admit .ensures) ∙ t .if1 .left) in
-    let f : FoundBy (isSequence (a .sequence)) (readLog (a .m) (a .log .now) .slots) (At (j .i .given .0 .0)) =
-    subst (FoundBy (isSequence (a .sequence)) (readLog (a .m) (a .log .now) .slots)) (j .i .given .1) (at-waiting-in .waiting-in .ensures) in
-    let i = j .i .given .0 .0 in
+    let f : FoundBy (isSequence (a .sequence)) (readLog (a .m) (a .log .now) .slots) (At (j .found .given .0 .0)) =
+    subst (FoundBy (isSequence (a .sequence)) (readLog (a .m) (a .log .now) .slots)) (j .found .given .1) (at-waiting-in .waiting-in .ensures) in
+    let i = j .found .given .0 .0 in
     let d = at-push .push in
     rw (c .of4 .ensures)
     (push-sends (a .n) (a .b) (a .m) (a .sequence) (a .server .now) (a .view .now) (a .log .now) h i f (sym (at-is-behind .is-behind .ensures) ∙ at-if2 .if2 .left) (d .last .0) (d .last .1 .0)
@@ -141,14 +145,14 @@ same-length-8 c = search needs
 
 returns-4 : tie.Need-returns-4
 returns-4 c =
-    let at-waiting-in = c .before .before .before in
+    let at-waiting-in = c .before .before .before .before in
     let t = at-waiting-in .before .before in
     let start = t .before .before .before .before .before .before .before in
     let a = start .args in
     let h = admitted (a .n) (a .b) (a .m) (a .server .now) (a .view .now) (a .log .now) (sym (t .before .admit .ensures) ∙ t .if1 .left) in
-    rw (c .of2 .ensures)
+    rw (c .of2 .ensures, c .before .sought .ensures ∙ ap soughtNumber (c .before .before .enum-told .given .1))
     (push-none (a .n) (a .b) (a .m) (a .sequence) (a .server .now) (a .view .now) (a .log .now) h
-    (subst (FoundBy (isSequence (a .sequence)) (readLog (a .m) (a .log .now) .slots)) (c .before .enum-told .given .1) (at-waiting-in .waiting-in .ensures)))
+    (subst (FoundBy (isSequence (a .sequence)) (readLog (a .m) (a .log .now) .slots)) (c .before .before .enum-told .given .1) (at-waiting-in .waiting-in .ensures)))
 
 same-length-9 : tie.Need-same-length-9
 same-length-9 c = search needs
@@ -167,9 +171,9 @@ returns-5 c =
     let start = t .before .before .before .before .before .before .before in
     let a = start .args in
     let h = admitted (a .n) (a .b) (a .m) (a .server .now) (a .view .now) (a .log .now) (sym (t .before .admit .ensures) ∙ t .if1 .left) in
-    let f : FoundBy (isSequence (a .sequence)) (readLog (a .m) (a .log .now) .slots) (At (j .i .given .0 .0)) =
-    subst (FoundBy (isSequence (a .sequence)) (readLog (a .m) (a .log .now) .slots)) (j .i .given .1) (at-waiting-in .waiting-in .ensures) in
-    let i = j .i .given .0 .0 in
+    let f : FoundBy (isSequence (a .sequence)) (readLog (a .m) (a .log .now) .slots) (At (j .found .given .0 .0)) =
+    subst (FoundBy (isSequence (a .sequence)) (readLog (a .m) (a .log .now) .slots)) (j .found .given .1) (at-waiting-in .waiting-in .ensures) in
+    let i = j .found .given .0 .0 in
     let d = at-push .push in
     rw (c .of5 .ensures)
     (push-fails (a .n) (a .b) (a .m) (a .sequence) (a .server .now) (a .view .now) (a .log .now) h i f (sym (at-is-behind .is-behind .ensures) ∙ at-if2 .if2 .left) (d .last .0) (d .last .1 .0)
@@ -186,8 +190,9 @@ push-spec =
     returns
     waiting-in-requires
     enum-told
+    sought-requires
     of-requires-2
-    enum-known-i
+    enum-known-found
     is-behind-requires
     of-requires-3
     same-length-3

@@ -1,7 +1,8 @@
 -- `session_renew::renew` meets its contract. Assumes nothing.
-use mathlib.Core.Path.{sym, _∙_, subst}
+use mathlib.Core.Path.{ap, sym, _∙_, subst}
 use Rattle.log.specs.Stored.{readLog}
 use Rattle.log.specs.Change.{isLossOf}
+use Rattle.log_find.specs.Position.{leftNumber}
 use Rattle.log_find.specs.Code.Found.{FoundBy}
 use Rattle.log.specs.Laws.Geometry.{logged-most}
 use Rattle.session.specs.Call.{geometry, buffers, renew}
@@ -58,6 +59,9 @@ loss-in-requires c κs =
 enum-told : tie.Need-enum-told
 enum-told c = search needs
 
+left-requires : tie.Need-left-requires
+left-requires c κs = search needs
+
 of-requires-3 : tie.Need-of-requires-3
 of-requires-3 c κs = search needs
 
@@ -82,15 +86,15 @@ same-length-3 c = search needs
 
 returns-3 : tie.Need-returns-3
 returns-3 c =
-    let at-loss-in = c .before .before .before in
+    let at-loss-in = c .before .before .before .before in
     let at-if2 = at-loss-in .before .before in
     let at-number-refusal = at-if2 .before in
     let t = at-number-refusal .before in
     let start = t .before .before .before .before .before .before in
     let a = start .args in
     let h = admitted (a .n) (a .b) (a .m) (a .server .now) (a .view .now) (a .log .now) (sym (t .before .admit .ensures) ∙ t .if1 .left) in
-    let d = c .before .enum-told .given in
-    rw (c .of3 .ensures) (renew-left (a .n) (a .b) (a .m) (a .program) (a .server .now) (a .view .now) (a .log .now) h (sym (at-if2 .if2 .left) ∙ at-number-refusal .number-refusal .ensures) (d .0 .0) (subst (FoundBy (isLossOf (a .program)) (readLog (a .m) (a .log .now) .slots)) (d .1) (at-loss-in .loss-in .ensures)))
+    let d = c .before .before .enum-told .given in
+    rw (c .of3 .ensures, c .before .left .ensures ∙ ap leftNumber (c .before .before .enum-told .given .1)) (renew-left (a .n) (a .b) (a .m) (a .program) (a .server .now) (a .view .now) (a .log .now) h (sym (at-if2 .if2 .left) ∙ at-number-refusal .number-refusal .ensures) (d .0 .0) (subst (FoundBy (isLossOf (a .program)) (readLog (a .m) (a .log .now) .slots)) (d .1) (at-loss-in .loss-in .ensures)))
 
 same-length-4 : tie.Need-same-length-4
 same-length-4 c = search needs
@@ -123,6 +127,7 @@ renew-spec =
     returns-2
     loss-in-requires
     enum-told
+    left-requires
     of-requires-3
     enum-told-2
     renew-requires

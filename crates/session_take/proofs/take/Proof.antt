@@ -1,8 +1,9 @@
 -- `session_take::take` meets its contract. Assumes nothing.
-use mathlib.Core.Path.{sym, _∙_, subst}
+use mathlib.Core.Path.{ap, sym, _∙_, subst}
 use Rattle.log.specs.Stored.{readLog}
 use Rattle.log.specs.Change.{isLossOf}
 use Rattle.log_find.specs.declared.Position.the-variants.{At}
+use Rattle.log_find.specs.Position.{soughtNumber}
 use Rattle.log_find.specs.Code.Found.{FoundBy}
 use Rattle.log.specs.Laws.Geometry.{logged-most}
 use Rattle.session.specs.Call.{geometry, buffers, take}
@@ -58,11 +59,14 @@ loss-in-requires c κs =
 enum-told : tie.Need-enum-told
 enum-told c = search needs
 
+sought-requires : tie.Need-sought-requires
+sought-requires c κs = search needs
+
 refused-requires-3 : tie.Need-refused-requires-3
 refused-requires-3 c κs = search needs
 
-enum-known-i : tie.Need-enum-known-i
-enum-known-i c = search needs
+enum-known-found : tie.Need-enum-known-found
+enum-known-found c = search needs
 
 refused-requires-4 : tie.Need-refused-requires-4
 refused-requires-4 c κs = search needs
@@ -80,7 +84,7 @@ returns-3 c =
     let start = t .before .before .before .before .before .before .before in
     let a = start .args in
     let h = admitted (a .n) (a .b) (a .m) (a .server .now) (a .view .now) (a .log .now) (sym (t .before .admit .ensures) ∙ t .if1 .left) in
-    let d = at-i .i .given in
+    let d = at-i .found .given in
     rw (c .refused4 .ensures) (take-short (a .n) (a .b) (a .m) (a .program) (a .server .now) (a .view .now) (a .log .now) (a .buffer .now) h (sym (at-if2 .if2 .left) ∙ at-number-refusal .number-refusal .ensures) (d .0 .0) (subst (FoundBy (isLossOf (a .program)) (readLog (a .m) (a .log .now) .slots)) (d .1) (at-loss-in .loss-in .ensures)) (c .before .if3 .taken))
 
 take-requires : tie.Need-take-requires
@@ -92,7 +96,7 @@ take-requires c κs =
     let start = t .before .before .before .before .before .before .before in
     let a = start .args in
     let h = admitted (a .n) (a .b) (a .m) (a .server .now) (a .view .now) (a .log .now) (sym (t .before .admit .ensures) ∙ t .if1 .left) in
-    let d = at-i .i .given in
+    let d = at-i .found .given in
     let f : FoundBy (isLossOf (a .program)) (readLog (a .m) (a .log .now) .slots) (At (d .0 .0)) = subst (FoundBy (isLossOf (a .program)) (readLog (a .m) (a .log .now) .slots)) (d .1) (at-loss-in .loss-in .ensures) in
     (logged-most (a .n) (a .b) (a .m) (a .log .now) (h .log), (f .0, at-if3 .if3 .left))
 
@@ -104,15 +108,15 @@ same-length-4 c = search needs
 
 returns-4 : tie.Need-returns-4
 returns-4 c =
-    let at-loss-in = c .before .before .before in
+    let at-loss-in = c .before .before .before .before in
     let at-if2 = at-loss-in .before .before in
     let at-number-refusal = at-if2 .before in
     let t = at-number-refusal .before in
     let start = t .before .before .before .before .before .before .before in
     let a = start .args in
     let h = admitted (a .n) (a .b) (a .m) (a .server .now) (a .view .now) (a .log .now) (sym (t .before .admit .ensures) ∙ t .if1 .left) in
-    rw (c .refused3 .ensures)
-    (take-none (a .n) (a .b) (a .m) (a .program) (a .server .now) (a .view .now) (a .log .now) (a .buffer .now) h (sym (at-if2 .if2 .left) ∙ at-number-refusal .number-refusal .ensures) (subst (FoundBy (isLossOf (a .program)) (readLog (a .m) (a .log .now) .slots)) (c .before .enum-told .given .1) (at-loss-in .loss-in .ensures)))
+    rw (c .refused3 .ensures, c .before .sought .ensures ∙ ap soughtNumber (c .before .before .enum-told .given .1))
+    (take-none (a .n) (a .b) (a .m) (a .program) (a .server .now) (a .view .now) (a .log .now) (a .buffer .now) h (sym (at-if2 .if2 .left) ∙ at-number-refusal .number-refusal .ensures) (subst (FoundBy (isLossOf (a .program)) (readLog (a .m) (a .log .now) .slots)) (c .before .before .enum-told .given .1) (at-loss-in .loss-in .ensures)))
 
 same-length-5 : tie.Need-same-length-5
 same-length-5 c = search needs
@@ -132,7 +136,7 @@ returns-5 c =
     let start = t .before .before .before .before .before .before .before in
     let a = start .args in
     let h = admitted (a .n) (a .b) (a .m) (a .server .now) (a .view .now) (a .log .now) (sym (t .before .admit .ensures) ∙ t .if1 .left) in
-    let d = at-i .i .given in
+    let d = at-i .found .given in
     let k = at-take .take in
     rw (c .of .ensures)
     (take-writes (a .n) (a .b) (a .m) (a .program) (a .server .now) (a .view .now) (a .log .now) (a .buffer .now) h (sym (at-if2 .if2 .left) ∙ at-number-refusal .number-refusal .ensures) (d .0 .0) (subst (FoundBy (isLossOf (a .program)) (readLog (a .m) (a .log .now) .slots)) (d .1) (at-loss-in .loss-in .ensures)) (at-if3 .if3 .left)
@@ -152,8 +156,9 @@ take-spec =
     returns-2
     loss-in-requires
     enum-told
+    sought-requires
     refused-requires-3
-    enum-known-i
+    enum-known-found
     refused-requires-4
     same-length-3
     returns-3

@@ -108,11 +108,11 @@ module _ (s : List ℕ) (r : Record) (rest : List ℕ) (sound : valid r ≡ true
     held-found = ap (recordFrom s) held-whole ∙ record-back s 0 r rest sound e
 
     -- The place after it is behind its bytes, and so these are the bytes before that place.
-    pub held-next : w .next ≡ length (encode r)
+    pub held-next : w .next .at ≡ length (encode r)
     unfolding wholeOf
-    held-next = let z = ap (λ (x : Whole). x .next) held-whole in omega arith
+    held-next = let z = ap (λ (x : Whole). x .next .at) held-whole in omega arith
 
-    pub held-bytes : take (w .next) s ≡ encode r
+    pub held-bytes : take (w .next .at) s ≡ encode r
     held-bytes = rw (held-next, e) (take-at (encode r) rest (length (encode r)) refl)
 
     pub held-fitting : (n b : ℕ) → fits n b r ≡ true → Fitting n b s w

@@ -20,7 +20,7 @@ use Rattle.volume_tree.specs.Volume.{Volume, entryAt, search, hasChildren}
 use Rattle.volume_tree.specs.Form.{wellFormed}
 use Rattle.volume_entry.specs.Write.{resized}
 use Rattle.volume_entry.specs.Laws.Entry.{renamed-name, renamed-parent, renamed-kind, renamed-contents, refilled-name, refilled-parent, refilled-kind, refilled-contents, file-no-directory, unused-free}
-use Rattle.volume_entry.specs.Laws.Field.{alike-directory, alike-name}
+use Rattle.volume_entry.specs.Laws.Field.{alike-file, alike-directory, alike-name}
 use Rattle.volume_entry.specs.Laws.Write.{length-patch, resized-length}
 use Rattle.volume_apply.specs.Apply.{isAbsent, isAt, leads, hasRoom, stays, displaceable, yields, applies, apply}
 use Rattle.volume_tree.specs.Laws.Search.{entry-set-same, entry-set-other, file-below, named-below, Named, child-intro, named-inv, named-intro, search-found, search-none, childless}
@@ -230,3 +230,18 @@ apply-length v (overwrite o f c) = length-set v o (refilled (entryAt v o) (patch
 apply-length v (append o f c) = length-set v o (refilled (entryAt v o) (contentsOf (entryAt v o) ++ c))
 apply-length v (setLength o f) = length-set v o (refilled (entryAt v o) (resized (contentsOf (entryAt v o)) f))
 apply-length v (forder l) = refl
+
+-- "forder's change to the view is none"
+pub apply-forder : (v : Volume) (os : List ℕ) → apply v (forder os) ≡ v
+unfolding apply
+apply-forder v os = refl
+
+-- an overwrite leaves a file of the same length
+pub overwritten-file : (v : Volume) (o f : ℕ) (t : List ℕ) → o < length v → isFile (entryAt v o) ≡ true → f + length t ≤ length (contentsOf (entryAt v o))
+    → (isFile (entryAt (apply v (overwrite o f t)) o) ≡ true) × (length (contentsOf (entryAt v o)) ≡ length (contentsOf (entryAt (apply v (overwrite o f t)) o)))
+unfolding apply
+overwritten-file v o f t there isf h =
+    let e = entryAt v o in
+    let c = patch (contentsOf e) f t in
+    let is = entry-set-same v o (refilled e c) there in
+    (ap isFile is ∙ alike-file (refilled e c) e (refilled-kind e c) ∙ isf, sym (ap (λ (x : Entry). length (contentsOf x)) is ∙ ap length (refilled-contents e c isf) ∙ length-patch (contentsOf e) f t h))

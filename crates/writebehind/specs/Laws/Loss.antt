@@ -3,7 +3,7 @@ use Prim.Native.Nat.{ℕ}
 use native.Mathlib.Omega.{arith}
 use mathlib.Core.Path.{_≡_, refl, sym, ap, _∙_}
 use mathlib.Core.Logic.{_↔_}
-use mathlib.Core.List.{List, [], _∷_, _++_}
+use mathlib.Core.List.{List, _++_}
 use mathlib.Core.Bool.{true}
 use mathlib.Core.Option.{Option, none, some}
 use lib.ListN.{drop}
@@ -13,14 +13,9 @@ use Rattle.record.specs.Decode.{decodeRecord}
 use Rattle.record.specs.Laws.Decode.{decode-sound, decode-encoded}
 use Rattle.record_reader.specs.declared.Reading.{Reading}
 use Rattle.record_reader.specs.declared.Reading.the-variants.{Is, Bad}
-use Rattle.record_reader.specs.Answer.{wholeOf, Exact, read, refused, readingNumber, readingResults}
+use Rattle.record_reader.specs.Answer.{wholeOf, Exact, read, refused}
 use Rattle.writebehind.specs.declared.loss.Loss.{Loss}
-use Rattle.writebehind.specs.Loss.{noLoss, lossIn, lossOf}
-
--- by cases of what was read
-abbrev pub lossRead : Reading → Loss
-lossRead (Is w) = lossIn w
-lossRead Bad = noLoss
+use Rattle.writebehind.specs.Loss.{noLoss, lossIn, lossRead, lossOf}
 
 pub read-loss : (s : List ℕ) (at : ℕ) (x : Reading) → Exact s at x → lossRead x ≡ lossOf at (decodeRecord (drop at s))
 read-loss s at (Is w) (read r rest good e) = ap (lossOf at) (sym (ap decodeRecord e ∙ decode-encoded r rest good))
@@ -42,12 +37,3 @@ loss-exact s at = (go (decodeRecord (drop at s)) refl, λ h. ap (λ (l : Loss). 
     go : (o : Option Record) → decodeRecord (drop at s) ≡ o → lossOf at o .returned ≡ 0 → (r : Record) × (valid r ≡ true) × ((rest : List ℕ) × (drop at s ≡ encode r ++ rest))
     go none e h = absurd (omega arith)
     go (some r) e h = let d = decode-sound (drop at s) r e in (r, d .0, d .1)
-
--- Its number and first results are those that the reader's answer has.
-pub loss-number : (x : Reading) → lossRead x .returned ≡ readingNumber x
-loss-number (Is w) = refl
-loss-number Bad = refl
-
-pub loss-results : (x : Reading) → lossRead x .next ∷ lossRead x .sequence ∷ lossRead x .program ∷ lossRead x .kind ∷ [] ≡ readingResults x
-loss-results (Is w) = refl
-loss-results Bad = refl

@@ -28,10 +28,10 @@ module _ (n b : ℕ) (waits : Bool) (p : List ℕ) where
     unfit : fitsWhole n b p w ≡ false → Bad ≡ formBy n b waits p (recordAt p 0)
     unfit t = rw (r, t)
 
-    stray : fitsWhole n b p w ≡ true → zeros (drop (w .next) p) ≡ false → Bad ≡ formBy n b waits p (recordAt p 0)
+    stray : fitsWhole n b p w ≡ true → zeros (drop (w .next .at) p) ≡ false → Bad ≡ formBy n b waits p (recordAt p 0)
     stray t z = rw (r, t, z)
 
-    formed : fitsWhole n b p w ≡ true → zeros (drop (w .next) p) ≡ true → Is (w .head .sequence) waits ≡ formBy n b waits p (recordAt p 0)
+    formed : fitsWhole n b p w ≡ true → zeros (drop (w .next .at) p) ≡ true → Is (w .head .sequence) waits ≡ formBy n b waits p (recordAt p 0)
     formed t z = rw (r, t, z)
 
 read-record-requires : tie.Need-read-record-requires
@@ -54,7 +54,7 @@ fits-requires c κs = search needs
 
 sub-all-zero : tie.Need-sub-all-zero
 sub-all-zero c =
-    let w = c .before .before .before in
+    let w = c .before .before .before .before in
     let r = w .before .before in
     let k = r .before in
     omega (
@@ -76,26 +76,26 @@ returns-2 : tie.Need-returns-2
 returns-2 c =
     let y = c .before in
     let z = y .before in
-    let x = z .before .before in
+    let x = z .before .before .before in
     let t = x .before in
     let w = t .before .before in
     let r = w .before .before in
     let a = r .before .before .args in
     let v = w .w .given .0 .0 in
     formed (a .n) (a .b) (a .waits) (a .part .now) v (settled (r .read-record .ensures .0) (w .w .given .1))
-    (settled (t .fits2 .ensures) (x .if1 .taken)) (settled (z .all-zero .ensures ∙ ap zeros (take-rest (v .next) (a .part .now))) (y .if2 .taken))
+    (settled (t .fits2 .ensures) (x .if1 .taken)) (settled (z .all-zero .ensures ∙ ap zeros (take-rest (v .next .at) (a .part .now))) (y .if2 .taken))
 
 returns-3 : tie.Need-returns-3
 returns-3 c =
     let z = c .before in
-    let x = z .before .before in
+    let x = z .before .before .before in
     let t = x .before in
     let w = t .before .before in
     let r = w .before .before in
     let a = r .before .before .args in
     let v = w .w .given .0 .0 in
     stray (a .n) (a .b) (a .waits) (a .part .now) v (settled (r .read-record .ensures .0) (w .w .given .1))
-    (settled (t .fits2 .ensures) (x .if1 .taken)) (settled (z .all-zero .ensures ∙ ap zeros (take-rest (v .next) (a .part .now))) (c .if2 .left))
+    (settled (t .fits2 .ensures) (x .if1 .taken)) (settled (z .all-zero .ensures ∙ ap zeros (take-rest (v .next .at) (a .part .now))) (c .if2 .left))
 
 returns-4 : tie.Need-returns-4
 returns-4 c =

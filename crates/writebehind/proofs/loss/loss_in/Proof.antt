@@ -11,7 +11,7 @@ code-requires c κs = search needs
 
 returns : tie.Need-returns
 returns c =
-    let start = c .before .before .before .before .before .before .before .before .before in
+    let start = c .before .before .before .before .before .before .before .before .before .before in
     ap (λ (k : ℕ). lossWith k (start .args .w)) (c .code .ensures)
 
 pub loss-in-spec : {M : Type 1} → statement M
