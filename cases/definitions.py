@@ -601,6 +601,8 @@ class Player:
     NAMES = {'create': 'createFile', 'mkdir': 'makeDirectory', 'rmfile': 'removeFile', 'rmdir': 'removeDirectory',
              'setlen': 'setLength'}
     BUFFERED = {'list', 'read', 'take'}
+    # the calls whose first argument tells who makes a change
+    CHANGES = {'create', 'mkdir', 'rmfile', 'rmdir', 'rename', 'write', 'setlen', 'forder'}
 
     def __init__(self, translator, returned):
         self.translator, self.returned = translator, returned
@@ -671,6 +673,8 @@ class Player:
         definition = self.translator.calls.get(self.NAMES.get(name, name))
         if definition is None or definition.arity != len(arguments):
             raise Unclear(f'{name}: no such call')
+        if name in self.CHANGES:
+            arguments = [self.translator.load(self.translator.calls['issuer'])(arguments[0])] + arguments[1:]
         return self.translator.load(definition)(*arguments)
 
     def call(self, name, arguments):
@@ -681,8 +685,8 @@ class Player:
         buffers = self.record(server=lent[0], view=lent[1], log=lent[2])
         own, left = (), lent
         if name == 'record':
-            reading = run['recordAt'](arguments[1], arguments[0])
-            number, results = run['readingNumber'](reading), run['readingResults'](reading)
+            loss = run['lossOf'](arguments[0], run['decodeRecord'](arguments[1][arguments[0]:]))
+            number, results = loss.f_returned, (loss.f_next, loss.f_sequence, loss.f_program, loss.f_kind)
         elif name == 'format':
             number, results, left = run['format'](geometry, lent[0]), (), [run['formatLeaves'](geometry, lent[0])] + lent[1:]
             self.fed = None
@@ -732,14 +736,15 @@ def main():
     repository, start, returned, fed, differing = Repository(chosen.root), time.time(), collections.Counter(), [0], 0
     translator = Translator(repository)
     try:
-        named = {'session': ('step', 'format', 'formatLeaves', 'mount'), 'reader': ('recordAt', 'readingNumber', 'readingResults')}
+        named = {'session': ('step', 'format', 'formatLeaves', 'mount')}
         translator.entries = {name: translator.load(repository.defining(name, crate).definitions[name])
                               for crate, names in named.items() for name in names}
         translator.calls = repository.module('Rattle.session.specs.Call').definitions
         for path, names in {'register.specs.Register': 'begun sentIn waitingIn viewOf', 'register.specs.Replay': 'replay',
                             'register.specs.Feed': 'feed', 'register.specs.Takes': 'wrote lostRecords', 'record.specs.Fields': 'encode',
                             'log.specs.Change': 'waitingOf lossesOf', 'session.specs.Step': 'decodeModel',
-                            'volume_tree.specs.Stored': 'decodeVolume'}.items():
+                            'volume_tree.specs.Stored': 'decodeVolume', 'writebehind.specs.Loss': 'lossOf',
+                            'record.specs.Decode': 'decodeRecord'}.items():
             for name in names.split():
                 translator.entries[name] = translator.load(repository.module(f'Rattle.{path}').definitions[name])
     except Unclear as reason:

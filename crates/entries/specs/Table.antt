@@ -3,7 +3,7 @@
 use mathlib.Core.Path.{_≡_}
 use mathlib.Core.List.{List, [], _∷_}
 use denote.Ref.{now}
-use Rattle.session.specs.Call.{Geometry, Buffers, Call, Answer, geometry, buffers, answer}
+use Rattle.session.specs.Call.{Geometry, Buffers, Call, Answer, geometry, buffers, answer, issuer}
 use Rattle.session.specs.Call
 use Rattle.session.specs.Step.{format, formatLeaves}
 use Rattle.writebehind.proofs.wb_lookup
@@ -92,7 +92,7 @@ create =
       routine = wb_create.Symbol.routine;
       observed = λ κs a r e.
           seen (geometry (a .0) (a .1 .0) (a .1 .1 .0)) (buffers (now (a .1 .1 .1 .0)) (now (a .1 .1 .1 .1 .0)) (now (a .1 .1 .1 .1 .1 .0)))
-          (Call.createFile (a .1 .1 .1 .1 .1 .1 .0) (a .1 .1 .1 .1 .1 .1 .1 .0) (now (a .1 .1 .1 .1 .1 .1 .1 .1 .0)) (a .1 .1 .1 .1 .1 .1 .1 .1 .1 .0))
+          (Call.createFile (issuer (a .1 .1 .1 .1 .1 .1 .0)) (a .1 .1 .1 .1 .1 .1 .1 .0) (now (a .1 .1 .1 .1 .1 .1 .1 .1 .0)) (a .1 .1 .1 .1 .1 .1 .1 .1 .1 .0))
           (answer (r .returned) (r .value ∷ []) []) (buffers (now (a .1 .1 .1 .0)) (now (e .1 .1 .1 .1 .0)) (now (e .1 .1 .1 .1 .1 .0)));
       kept = λ M. wb_create.Met.met {M = M};
     }
@@ -105,7 +105,7 @@ mkdir =
       routine = wb_mkdir.Symbol.routine;
       observed = λ κs a r e.
           seen (geometry (a .0) (a .1 .0) (a .1 .1 .0)) (buffers (now (a .1 .1 .1 .0)) (now (a .1 .1 .1 .1 .0)) (now (a .1 .1 .1 .1 .1 .0)))
-          (Call.makeDirectory (a .1 .1 .1 .1 .1 .1 .0) (a .1 .1 .1 .1 .1 .1 .1 .0) (now (a .1 .1 .1 .1 .1 .1 .1 .1 .0)) (a .1 .1 .1 .1 .1 .1 .1 .1 .1 .0))
+          (Call.makeDirectory (issuer (a .1 .1 .1 .1 .1 .1 .0)) (a .1 .1 .1 .1 .1 .1 .1 .0) (now (a .1 .1 .1 .1 .1 .1 .1 .1 .0)) (a .1 .1 .1 .1 .1 .1 .1 .1 .1 .0))
           (answer (r .returned) (r .value ∷ []) []) (buffers (now (a .1 .1 .1 .0)) (now (e .1 .1 .1 .1 .0)) (now (e .1 .1 .1 .1 .1 .0)));
       kept = λ M. wb_mkdir.Met.met {M = M};
     }
@@ -118,7 +118,7 @@ remove-file =
       routine = wb_remove_file.Symbol.routine;
       observed = λ κs a r e.
           seen (geometry (a .0) (a .1 .0) (a .1 .1 .0)) (buffers (now (a .1 .1 .1 .0)) (now (a .1 .1 .1 .1 .0)) (now (a .1 .1 .1 .1 .1 .0)))
-          (Call.removeFile (a .1 .1 .1 .1 .1 .1 .0) (a .1 .1 .1 .1 .1 .1 .1 .0) (now (a .1 .1 .1 .1 .1 .1 .1 .1 .0)))
+          (Call.removeFile (issuer (a .1 .1 .1 .1 .1 .1 .0)) (a .1 .1 .1 .1 .1 .1 .1 .0) (now (a .1 .1 .1 .1 .1 .1 .1 .1 .0)))
           (answer (r .returned) (r .value ∷ []) []) (buffers (now (a .1 .1 .1 .0)) (now (e .1 .1 .1 .1 .0)) (now (e .1 .1 .1 .1 .1 .0)));
       kept = λ M. wb_remove_file.Met.met {M = M};
     }
@@ -131,7 +131,7 @@ remove-directory =
       routine = wb_remove_directory.Symbol.routine;
       observed = λ κs a r e.
           seen (geometry (a .0) (a .1 .0) (a .1 .1 .0)) (buffers (now (a .1 .1 .1 .0)) (now (a .1 .1 .1 .1 .0)) (now (a .1 .1 .1 .1 .1 .0)))
-          (Call.removeDirectory (a .1 .1 .1 .1 .1 .1 .0) (a .1 .1 .1 .1 .1 .1 .1 .0) (now (a .1 .1 .1 .1 .1 .1 .1 .1 .0)))
+          (Call.removeDirectory (issuer (a .1 .1 .1 .1 .1 .1 .0)) (a .1 .1 .1 .1 .1 .1 .1 .0) (now (a .1 .1 .1 .1 .1 .1 .1 .1 .0)))
           (answer (r .returned) (r .value ∷ []) []) (buffers (now (a .1 .1 .1 .0)) (now (e .1 .1 .1 .1 .0)) (now (e .1 .1 .1 .1 .1 .0)));
       kept = λ M. wb_remove_directory.Met.met {M = M};
     }
@@ -144,7 +144,7 @@ rename =
       routine = wb_rename.Symbol.routine;
       observed = λ κs a r e.
           seen (geometry (a .0) (a .1 .0) (a .1 .1 .0)) (buffers (now (a .1 .1 .1 .0)) (now (a .1 .1 .1 .1 .0)) (now (a .1 .1 .1 .1 .1 .0)))
-          (Call.rename (a .1 .1 .1 .1 .1 .1 .0) (a .1 .1 .1 .1 .1 .1 .1 .0) (now (a .1 .1 .1 .1 .1 .1 .1 .1 .0)) (a .1 .1 .1 .1 .1 .1 .1 .1 .1 .0) (now (a .1 .1 .1 .1 .1 .1 .1 .1 .1 .1 .0)))
+          (Call.rename (issuer (a .1 .1 .1 .1 .1 .1 .0)) (a .1 .1 .1 .1 .1 .1 .1 .0) (now (a .1 .1 .1 .1 .1 .1 .1 .1 .0)) (a .1 .1 .1 .1 .1 .1 .1 .1 .1 .0) (now (a .1 .1 .1 .1 .1 .1 .1 .1 .1 .1 .0)))
           (answer (r .returned) (r .value ∷ []) []) (buffers (now (a .1 .1 .1 .0)) (now (e .1 .1 .1 .1 .0)) (now (e .1 .1 .1 .1 .1 .0)));
       kept = λ M. wb_rename.Met.met {M = M};
     }
@@ -157,7 +157,7 @@ write =
       routine = wb_write.Symbol.routine;
       observed = λ κs a r e.
           seen (geometry (a .0) (a .1 .0) (a .1 .1 .0)) (buffers (now (a .1 .1 .1 .0)) (now (a .1 .1 .1 .1 .0)) (now (a .1 .1 .1 .1 .1 .0)))
-          (Call.write (a .1 .1 .1 .1 .1 .1 .0) (a .1 .1 .1 .1 .1 .1 .1 .0) (a .1 .1 .1 .1 .1 .1 .1 .1 .0) (now (a .1 .1 .1 .1 .1 .1 .1 .1 .1 .0)))
+          (Call.write (issuer (a .1 .1 .1 .1 .1 .1 .0)) (a .1 .1 .1 .1 .1 .1 .1 .0) (a .1 .1 .1 .1 .1 .1 .1 .1 .0) (now (a .1 .1 .1 .1 .1 .1 .1 .1 .1 .0)))
           (answer (r .returned) (r .value ∷ []) []) (buffers (now (a .1 .1 .1 .0)) (now (e .1 .1 .1 .1 .0)) (now (e .1 .1 .1 .1 .1 .0)));
       kept = λ M. wb_write.Met.met {M = M};
     }
@@ -170,7 +170,7 @@ setlen =
       routine = wb_setlen.Symbol.routine;
       observed = λ κs a r e.
           seen (geometry (a .0) (a .1 .0) (a .1 .1 .0)) (buffers (now (a .1 .1 .1 .0)) (now (a .1 .1 .1 .1 .0)) (now (a .1 .1 .1 .1 .1 .0)))
-          (Call.setLength (a .1 .1 .1 .1 .1 .1 .0) (a .1 .1 .1 .1 .1 .1 .1 .0) (a .1 .1 .1 .1 .1 .1 .1 .1 .0))
+          (Call.setLength (issuer (a .1 .1 .1 .1 .1 .1 .0)) (a .1 .1 .1 .1 .1 .1 .1 .0) (a .1 .1 .1 .1 .1 .1 .1 .1 .0))
           (answer (r .returned) (r .value ∷ []) []) (buffers (now (a .1 .1 .1 .0)) (now (e .1 .1 .1 .1 .0)) (now (e .1 .1 .1 .1 .1 .0)));
       kept = λ M. wb_setlen.Met.met {M = M};
     }
@@ -183,7 +183,7 @@ forder =
       routine = wb_forder.Symbol.routine;
       observed = λ κs a r e.
           seen (geometry (a .0) (a .1 .0) (a .1 .1 .0)) (buffers (now (a .1 .1 .1 .0)) (now (a .1 .1 .1 .1 .0)) (now (a .1 .1 .1 .1 .1 .0)))
-          (Call.forder (a .1 .1 .1 .1 .1 .1 .0) (now (a .1 .1 .1 .1 .1 .1 .1 .0)))
+          (Call.forder (issuer (a .1 .1 .1 .1 .1 .1 .0)) (now (a .1 .1 .1 .1 .1 .1 .1 .0)))
           (answer (r .returned) (r .value ∷ []) []) (buffers (now (a .1 .1 .1 .0)) (now (a .1 .1 .1 .1 .0)) (now (e .1 .1 .1 .1 .1 .0)));
       kept = λ M. wb_forder.Met.met {M = M};
     }

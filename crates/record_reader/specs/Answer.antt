@@ -1,7 +1,7 @@
 -- What the reader of a whole record must answer: the record whose bytes begin at the place, and where its parts lie.
 use Prim.Native.Nat.{ℕ, _+_}
 use mathlib.Core.Path.{_≡_}
-use mathlib.Core.List.{List, [], _∷_, _++_}
+use mathlib.Core.List.{List, _++_}
 use mathlib.Core.Bool.{Bool, true, false}
 use lib.ListN.{length, drop}
 use Rattle.record_reader.specs.declared.Objects.{Objects}

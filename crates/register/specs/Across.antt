@@ -7,7 +7,7 @@ use lib.ListN.{length, take, drop}
 use Rattle.record.specs.Operation.{Operation, recordOf}
 use Rattle.volume_entry.specs.Entry.{contentsOf}
 use Rattle.volume_tree.specs.Volume.{entryAt}
-use Rattle.session.specs.Call.{Geometry, write}
+use Rattle.session.specs.Call.{Issuer, Geometry, write}
 use Rattle.register.specs.Register.{Register, Acknowledged, waiting, isWaiting, isLost, viewOf}
 use Rattle.register.specs.History.{Is}
 use Rattle.register.specs.Run.{State, Moment, Run, next, run, instead, CouldHaveBeenSent}
@@ -19,11 +19,11 @@ lengthIn r o = length (contentsOf (entryAt (viewOf r) o))
 
 -- an accepted write that begins before the length of its file and ends after it
 pub record Across (m : Moment) : Type 0 where
-  pub program : ℕ
+  pub by : Issuer
   pub object : ℕ
   pub offset : ℕ
   pub bytes : List ℕ
-  pub call : m .call ≡ write program object offset bytes
+  pub call : m .call ≡ write by object offset bytes
   pub accepted : m .answer .returned ≡ 0
   pub begins : offset < lengthIn (m .before .register) object
   pub ends : lengthIn (m .before .register) object < offset + length bytes
@@ -57,8 +57,8 @@ pub record TwoOperations (g : Geometry) (m : Moment) (w : Across m) (r : Run) : 
   pub overwrite : Acknowledged
   pub append : Acknowledged
   pub added : next g (m .call) (m .before) .register .operations ≡ m .before .register .operations ++ (overwrite ∷ append ∷ [])
-  pub first : overwrite .recorded ≡ recordOf (length (m .before .register .operations) + 1) (w .program) (firstOperation w)
-  pub second : append .recorded ≡ recordOf (length (m .before .register .operations) + 2) (w .program) (secondOperation w)
+  pub first : overwrite .recorded ≡ recordOf (length (m .before .register .operations) + 1) (w .by .program) (firstOperation w)
+  pub second : append .recorded ≡ recordOf (length (m .before .register .operations) + 2) (w .by .program) (secondOperation w)
   pub wait : (overwrite .fate ≡ waiting) × (append .fate ≡ waiting)
   pub told : m .answer .results ≡ overwrite .recorded .sequence ∷ []
   -- "A cut may keep the overwrite without the append": wherever the list ends, as long as the append waits

@@ -9,7 +9,7 @@ use lib.ListN.{length, replicate, take}
 use lib.Dec.{eqb}
 use Rattle.returned.specs.Returned
 use Rattle.record.specs.Operation.{Operation, Record, operands}
-use Rattle.record.specs.Fields.{member, encode, valid}
+use Rattle.record.specs.Fields.{encode, valid}
 use Rattle.record.specs.Decode.{decodeRecord}
 use Rattle.volume_tree.specs.Volume.{Volume}
 use Rattle.volume_tree.specs.Stored.{encodeVolume}
@@ -19,13 +19,13 @@ use Rattle.log.specs.Slot.{Slot, withSlots, sequenceOf, isWaiting as slotWaits}
 use Rattle.log.specs.Order.{any, PrecedesIn, needed}
 use Rattle.log.specs.Change.{waitingOf, lossesOf}
 use Rattle.session.specs.Class.{Question, Change}
-use Rattle.session.specs.Call.{Geometry, Buffers, Call, question, change, fsync, push, cut, take as takeLoss, renew, Answer, resultCount, ownBuffer}
+use Rattle.session.specs.Call.{Geometry, Buffers, Issuer, Call, question, change, fsync, push, cut, take as takeLoss, renew, Answer, resultCount, ownBuffer}
 use Rattle.session.specs.Model.{Model}
 use Rattle.session.specs.Step.{Result, Stores, step, mount, decodeModel, encodeModel}
 use Rattle.register.specs.Replay.{replay}
 use Rattle.register.specs.Register.{Register, Acknowledged, isWaiting, isSent, isLost, sentIn, waitingIn, lostIn, viewOf, recordedOf}
 use Rattle.register.specs.History.{Is, Precedes, Marked}
-use Rattle.register.specs.Feed.{neededFor, operationsIn, operandsIn}
+use Rattle.register.specs.Feed.{hasObject, neededFor, operationsIn, operandsIn}
 use Rattle.register.specs.Fates.{Fates, Nobody, Adds, Enters}
 use Rattle.register.specs.Run.{Moment, Run, Mounted, next, play, CouldHaveBeenSent}
 use Rattle.register.specs.Takes.{lostRecords, fetchedBy, acceptedTakes, Distinct}
@@ -38,13 +38,12 @@ AppliesInTurn v l = (before after : List Record) (r : Record) → l ≡ before +
 abbrev pub SentAt : Register → ℕ → Type 0
 SentAt r q = (a : Acknowledged) × Is a r × (a .recorded .sequence ≡ q) × (isSent a ≡ true)
 
--- what a successful fsync covers: "all waiting operations with that object as operand and their predecessors", as they wait
-pub record Covers (r : Register) (o : ℕ) (a : Acknowledged) : Type 0 where
+-- the waiting operations that a test picks "and their predecessors", as they wait. What a successful fsync covers are those "with that object
+-- as operand" (`hasObject`) and theirs
+pub record Covers (r : Register) (pick : Acknowledged → Bool) (a : Acknowledged) : Type 0 where
   pub acknowledged : Is a r
   pub waits : isWaiting a ≡ true
-  pub why :
-      (member o (operands (a .recorded .operation)) ≡ true)
-      ⊎ ((b : Acknowledged) × Is b r × (isWaiting b ≡ true) × (member o (operands (b .recorded .operation)) ≡ true) × Precedes r a b)
+  pub why : (pick a ≡ true) ⊎ ((b : Acknowledged) × Is b r × (isWaiting b ≡ true) × (pick b ≡ true) × Precedes r a b)
 
 -- no waiting operation precedes one
 abbrev pub Unpreceded : Register → Acknowledged → Type 0
@@ -76,14 +75,14 @@ pub record Registered (r s : Register) (c : Call) (a : Answer) : Type 0 where
   -- "An accepted change or forder adds its operation, waiting, numbered on from 1, its record completed from the replay of the sent and
   -- waiting": it has the operands of its operations
   pub changed :
-      (p : ℕ) (d : Change) → c ≡ change p d → a .returned ≡ 0
-      → Adds r s p (operationsIn (viewOf r) d) × Enters r s (map (λ (o : Operation). (p, operands o)) (operationsIn (viewOf r) d)) []
+      (i : Issuer) (d : Change) → c ≡ change i d → a .returned ≡ 0
+      → Adds r s (i .program) (operationsIn (viewOf r) d) × Enters r s (map (λ (o : Operation). (i .program, operands o)) (operationsIn (viewOf r) d)) []
   -- "An accepted push sends its operation", which waits
   pub pushed :
       (q : ℕ) → c ≡ push q → a .returned ≡ 0
       → ((b : Acknowledged) × Is b r × (b .recorded .sequence ≡ q) × (isWaiting b ≡ true)) × Fates r s (λ b. b .recorded .sequence ≡ q) Nobody × Enters r s [] []
   -- "an accepted fsync the d it needs (it covers them)"
-  pub synced : (p o k : ℕ) → c ≡ fsync p o k → a .returned ≡ 0 → Fates r s (Covers r o) Nobody × Enters r s ((p, o ∷ []) ∷ []) []
+  pub synced : (p o k : ℕ) → c ≡ fsync p o k → a .returned ≡ 0 → Fates r s (Covers r (hasObject o)) Nobody × Enters r s ((p, o ∷ []) ∷ []) []
   -- "refusal 17 the first k", and all else that waits is lost: "Fsync counts as such a call even if the link fails", so its caller is marked
   pub linkLost :
       (p o k : ℕ) → c ≡ fsync p o k → a .returned ≡ Returned.linkLost
@@ -101,9 +100,9 @@ pub record Registered (r s : Register) (c : Call) (a : Answer) : Type 0 where
 -- fsync how many it needs, and an fsync that loses the link the k that it sends
 pub record Answers (r : Register) (c : Call) (a : Answer) : Type 0 where
   pub number :
-      (p : ℕ) (d : Change) → c ≡ change p d → a .returned ≡ 0 → (o : Operation) (os : List Operation) → operationsIn (viewOf r) d ≡ o ∷ os
+      (i : Issuer) (d : Change) → c ≡ change i d → a .returned ≡ 0 → (o : Operation) (os : List Operation) → operationsIn (viewOf r) d ≡ o ∷ os
       → a .results ≡ (length (r .operations) + 1) ∷ []
-  pub some : (p : ℕ) (d : Change) → c ≡ change p d → a .returned ≡ 0 → (o : Operation) × (os : List Operation) × (operationsIn (viewOf r) d ≡ o ∷ os)
+  pub some : (i : Issuer) (d : Change) → c ≡ change i d → a .returned ≡ 0 → (o : Operation) × (os : List Operation) × (operationsIn (viewOf r) d ≡ o ∷ os)
   pub sync : (p o k : ℕ) → c ≡ fsync p o k → a .returned ≡ 0 → a .results ≡ length (neededFor o r) ∷ []
   pub link : (p o k : ℕ) → c ≡ fsync p o k → a .returned ≡ Returned.linkLost → (a .results ≡ k ∷ []) × (k < length (neededFor o r))
 
@@ -126,11 +125,11 @@ pub record Demand (g : Geometry) (v : Volume) (r : Run) : Type 0 where
   -- the sent set leaves out no predecessor of a member
   pub closed : (a c : Acknowledged) → Is a (r .last .register) → Is c (r .last .register) → isSent c ≡ true → Precedes (r .last .register) a c → isSent a ≡ true
   -- what fsync of an object needs is exactly what it covers
-  pub needs : (o : ℕ) (q : Record) → List·Memᴰ q (neededFor o (r .last .register)) ↔ ((a : Acknowledged) × (a .recorded ≡ q) × Covers (r .last .register) o a)
+  pub needs : (o : ℕ) (q : Record) → List·Memᴰ q (neededFor o (r .last .register)) ↔ ((a : Acknowledged) × (a .recorded ≡ q) × Covers (r .last .register) (hasObject o) a)
   -- the sent set holds what each successful fsync of the list covered
   pub covered :
       (m : Moment) → List·Memᴰ m (r .moments) → (p o k : ℕ) → m .call ≡ fsync p o k → m .answer .returned ≡ 0
-      → (a : Acknowledged) → Covers (m .before .register) o a → SentAt (r .last .register) (a .recorded .sequence)
+      → (a : Acknowledged) → Covers (m .before .register) (hasObject o) a → SentAt (r .last .register) (a .recorded .sequence)
   -- each call makes of the register what the paper's sentences say
   pub registered : (m : Moment) → List·Memᴰ m (r .moments) → Registered (m .before .register) (next g (m .call) (m .before) .register) (m .call) (m .answer)
   -- each call answers the numbers of what it did

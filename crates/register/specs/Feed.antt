@@ -23,17 +23,24 @@ unfoldable pub precedesSome : Acknowledged → List Acknowledged → Bool
 precedesSome a [] = false
 precedesSome a (b ∷ l) = directly a b || precedesSome a l
 
--- "all waiting operations with that object as operand and their predecessors, in issue order": of some operations in issue order, from
--- the last to the first, each that waits and has the object, or directly precedes one found behind it
-unfoldable pub covered : ℕ → List Acknowledged → List Acknowledged
-covered o [] = []
-covered o (a ∷ l) =
-    let found = covered o l in
-    cond (isWaiting a && (member o (operands (a .recorded .operation)) || precedesSome a found)) (a ∷ found) found
+-- the waiting operations that a test picks "and their predecessors, in issue order": of some operations in issue order, from the last to
+-- the first, each that waits and is picked, or directly precedes one found behind it
+unfoldable pub covered : (Acknowledged → Bool) → List Acknowledged → List Acknowledged
+covered pick [] = []
+covered pick (a ∷ l) =
+    let found = covered pick l in
+    cond (isWaiting a && (pick a || precedesSome a found)) (a ∷ found) found
 
--- "It needs d sends"
+abbrev pub coveredIn : (Acknowledged → Bool) → Register → List Record
+coveredIn pick r = map recordedOf (covered pick (r .operations))
+
+-- "with that object as operand"
+abbrev pub hasObject : ℕ → Acknowledged → Bool
+hasObject o a = member o (operands (a .recorded .operation))
+
+-- "It needs d sends: all waiting operations with that object as operand and their predecessors, in issue order."
 abbrev pub neededFor : ℕ → Register → List Record
-neededFor o r = map recordedOf (covered o (r .operations))
+neededFor o r = coveredIn (hasObject o) r
 
 -- the operation on what a name leads to; none where it leads to nothing
 abbrev pub onFound : Option ℕ → (ℕ → Operation) → List Operation
@@ -124,7 +131,7 @@ renewing p r = later (withRenewal (record { program = p; time = r .happened }) r
 -- "An accepted push sends its operation, an accepted fsync the d it needs"; "A cut, accepted .., makes all waiting ones lost."
 abbrev pub accepted : Call → Register → Register
 accepted (question p q) r = enter p (operandsIn (viewOf r) q) r
-accepted (change p c) r = addAll p (operationsIn (viewOf r) c) r
+accepted (change i c) r = addAll (i .program) (operationsIn (viewOf r) c) r
 accepted (link (push q)) r = sendOne q r
 accepted (link (fsync p o k)) r = sendAll (neededFor o r) (enter p (o ∷ []) r)
 accepted (link cut) r = loseAll r
@@ -141,7 +148,7 @@ brokenOff p o k a r =
 -- "Nothing else here changes it."
 abbrev pub refused : Call → Answer → Register → Register
 refused (question p q) a r = r
-refused (change p c) a r = r
+refused (change i c) a r = r
 refused (link (push q)) a r = r
 refused (link (fsync p o k)) a r = brokenOff p o k a r
 refused (link cut) a r = r

@@ -8,18 +8,18 @@ use lib.ListN.{length}
 use Rattle.record.specs.Operation.{Operation, Record, recordOf}
 use Rattle.volume_entry.specs.Entry.{Entry, isFile, isDirectory}
 use Rattle.volume_tree.specs.Volume.{Volume, entryAt, search, hasChildren}
-use Rattle.session.specs.Call.{Geometry, Call, removeFile, removeDirectory}
+use Rattle.session.specs.Call.{Geometry, Issuer, Call, removeFile, removeDirectory}
 use Rattle.register.specs.Replay.{replay}
 use Rattle.register.specs.Register.{Register, Acknowledged, sentIn, viewOf}
 use Rattle.register.specs.Run.{Moment, Run, next}
 use Rattle.register.specs.Claim.{SentAt}
 
 -- an accepted remove by one of the two calls
-pub record Removes (call : ℕ → ℕ → List ℕ → Call) (m : Moment) : Type 0 where
-  pub program : ℕ
+pub record Removes (call : Issuer → ℕ → List ℕ → Call) (m : Moment) : Type 0 where
+  pub by : Issuer
   pub parent : ℕ
   pub name : List ℕ
-  pub made : m .call ≡ call program parent name
+  pub made : m .call ≡ call by parent name
   pub accepted : m .answer .returned ≡ 0
 
 -- an object of a kind, without children
@@ -49,6 +49,6 @@ pub record Removed (g : Geometry) (v : Volume) (r : Run) (kind : Entry → Bool)
 -- after a list of calls on what an accepted mount of the volume v left
 pub record Removals (g : Geometry) (v : Volume) (r : Run) : Type 0 where
   -- "Remove file takes only files"
-  pub files : (m : Moment) → List·Memᴰ m (r .moments) → (w : Removes removeFile m) → Removed g v r isFile m (w .program) (w .parent) (w .name)
+  pub files : (m : Moment) → List·Memᴰ m (r .moments) → (w : Removes removeFile m) → Removed g v r isFile m (w .by .program) (w .parent) (w .name)
   -- "remove directory only empty directories"
-  pub directories : (m : Moment) → List·Memᴰ m (r .moments) → (w : Removes removeDirectory m) → Removed g v r isDirectory m (w .program) (w .parent) (w .name)
+  pub directories : (m : Moment) → List·Memᴰ m (r .moments) → (w : Removes removeDirectory m) → Removed g v r isDirectory m (w .by .program) (w .parent) (w .name)

@@ -10,7 +10,7 @@ use Rattle.record.specs.Operation.{Operation, Record, recordOf}
 use Rattle.volume_entry.specs.Entry.{nameOf}
 use Rattle.volume_tree.specs.Volume.{Volume, entryAt, isChild, search}
 use Rattle.volume_apply.specs.Spelling.{Respelled}
-use Rattle.session.specs.Call.{Geometry, rename}
+use Rattle.session.specs.Call.{Issuer, Geometry, rename}
 use Rattle.session.specs.Model.{Model}
 use Rattle.session.specs.Step.{decodeModel}
 use Rattle.register.specs.Replay.{replay}
@@ -29,11 +29,11 @@ pub record TwoAlike (v : Volume) : Type 0 where
 
 -- an accepted rename in one parent to another spelling of the name, or to the same
 pub record SameNames (m : Moment) : Type 0 where
-  pub program : ℕ
+  pub by : Issuer
   pub parent : ℕ
   pub name : List ℕ
   pub secondName : List ℕ
-  pub call : m .call ≡ rename program parent name parent secondName
+  pub call : m .call ≡ rename by parent name parent secondName
   pub accepted : m .answer .returned ≡ 0
   pub same : sameName name secondName ≡ true
 
@@ -47,7 +47,7 @@ pub record NewSpelling (g : Geometry) (m : Moment) (w : SameNames m) : Type 0 wh
   pub waits : renaming .fate ≡ waiting
   pub logged :
       renaming .recorded
-      ≡ recordOf (length (m .before .register .operations) + 1) (w .program) (Operation.rename object (w .parent) (w .parent) none (w .name) (w .secondName))
+      ≡ recordOf (length (m .before .register .operations) + 1) (w .by .program) (Operation.rename object (w .parent) (w .parent) none (w .name) (w .secondName))
   -- it "displaces nothing and changes the stored spelling", and "only the stored spelling itself changes nothing"
   pub view : Respelled (viewOf (m .before .register)) (viewOf (next g (m .call) (m .before) .register)) object (w .secondName)
 

@@ -29,14 +29,21 @@ pub record Buffers : Type 0 where
 abbrev pub buffers : List ℕ → List ℕ → List ℕ → Buffers
 buffers s v l = record { server = s; view = v; log = l }
 
--- a call with its arguments; a question, a change and a recovery are a program's, which is given by its number
+-- who makes a change: a program, which is given by its number
+pub record Issuer : Type 0 where
+  pub program : ℕ
+
+abbrev pub issuer : ℕ → Issuer
+issuer p = record { program = p }
+
+-- a call with its arguments; a question and a recovery are a program's too
 pub data Call : Type 0 where
   question : ℕ → Question → Call
-  change : ℕ → Change → Call
+  change : Issuer → Change → Call
   link : Link → Call
   recovery : ℕ → Recovery → Call
 
--- the calls by their names, each with its program first where it has one
+-- the calls by their names, each with its program or issuer first where it has one
 abbrev pub lookup : ℕ → List ℕ → Call
 lookup p s = question p (Class.lookup s)
 
@@ -49,29 +56,29 @@ stat p o = question p (Class.stat o)
 abbrev pub read : ℕ → ℕ → ℕ → List ℕ → Call
 read p o f s = question p (Class.read o f s)
 
-abbrev pub createFile : ℕ → ℕ → List ℕ → ℕ → Call
-createFile p d n o = change p (Class.createFile d n o)
+abbrev pub createFile : Issuer → ℕ → List ℕ → ℕ → Call
+createFile i d n o = change i (Class.createFile d n o)
 
-abbrev pub makeDirectory : ℕ → ℕ → List ℕ → ℕ → Call
-makeDirectory p d n o = change p (Class.makeDirectory d n o)
+abbrev pub makeDirectory : Issuer → ℕ → List ℕ → ℕ → Call
+makeDirectory i d n o = change i (Class.makeDirectory d n o)
 
-abbrev pub removeFile : ℕ → ℕ → List ℕ → Call
-removeFile p d n = change p (Class.removeFile d n)
+abbrev pub removeFile : Issuer → ℕ → List ℕ → Call
+removeFile i d n = change i (Class.removeFile d n)
 
-abbrev pub removeDirectory : ℕ → ℕ → List ℕ → Call
-removeDirectory p d n = change p (Class.removeDirectory d n)
+abbrev pub removeDirectory : Issuer → ℕ → List ℕ → Call
+removeDirectory i d n = change i (Class.removeDirectory d n)
 
-abbrev pub rename : ℕ → ℕ → List ℕ → ℕ → List ℕ → Call
-rename p d n e k = change p (Class.rename d n e k)
+abbrev pub rename : Issuer → ℕ → List ℕ → ℕ → List ℕ → Call
+rename i d n e k = change i (Class.rename d n e k)
 
-abbrev pub write : ℕ → ℕ → ℕ → List ℕ → Call
-write p o f s = change p (Class.write o f s)
+abbrev pub write : Issuer → ℕ → ℕ → List ℕ → Call
+write i o f s = change i (Class.write o f s)
 
-abbrev pub setLength : ℕ → ℕ → ℕ → Call
-setLength p o f = change p (Class.setLength o f)
+abbrev pub setLength : Issuer → ℕ → ℕ → Call
+setLength i o f = change i (Class.setLength o f)
 
-abbrev pub forder : ℕ → List ℕ → Call
-forder p s = change p (Class.forder s)
+abbrev pub forder : Issuer → List ℕ → Call
+forder i s = change i (Class.forder s)
 
 abbrev pub push : ℕ → Call
 push q = link (Class.push q)
@@ -104,7 +111,7 @@ resultCount (question p (Class.lookup s)) = 1
 resultCount (question p (Class.list o s)) = 1
 resultCount (question p (Class.stat o)) = 3
 resultCount (question p (Class.read o f s)) = 1
-resultCount (change p c) = 1
+resultCount (change i c) = 1
 resultCount (link (Class.push q)) = 0
 resultCount (link (Class.fsync p o k)) = 1
 resultCount (link Class.cut) = 0
@@ -117,7 +124,7 @@ ownBuffer (question p (Class.lookup s)) = []
 ownBuffer (question p (Class.list o s)) = s
 ownBuffer (question p (Class.stat o)) = []
 ownBuffer (question p (Class.read o f s)) = s
-ownBuffer (change p c) = []
+ownBuffer (change i c) = []
 ownBuffer (link l) = []
 ownBuffer (recovery p (Class.take s)) = s
 ownBuffer (recovery p Class.renew) = []

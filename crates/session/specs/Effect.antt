@@ -76,7 +76,7 @@ askedOf v (read o f s) = o ∷ []
 -- what an accepted call does. Fsync "needs d sends .. in issue order"
 abbrev pub acceptedEffects : Call → Told → List Effect
 acceptedEffects (question p q) t = note p (askedOf (t .view) q) ∷ []
-acceptedEffects (change p c) t = issuing p (operationsOf t c)
+acceptedEffects (change i c) t = issuing (i .program) (operationsOf t c)
 acceptedEffects (link (push q)) t = send q ∷ []
 acceptedEffects (link (fsync p o k)) t = note p (o ∷ []) ∷ sends (needed o (t .waiting))
 acceptedEffects (link cut) t = discard ∷ []
@@ -92,7 +92,7 @@ brokenSync p o k a need =
 
 abbrev pub refusedEffects : Call → Answer → Told → List Effect
 refusedEffects (question p q) a t = []
-refusedEffects (change p c) a t = []
+refusedEffects (change i c) a t = []
 refusedEffects (link (push q)) a t = []
 refusedEffects (link (fsync p o k)) a t = brokenSync p o k a (needed o (t .waiting))
 refusedEffects (link cut) a t = []

@@ -56,6 +56,6 @@ operationsOf t (forder s) = Operation.forder (objectsOf s) ∷ []
 -- the operations that a call issues where it is accepted
 abbrev pub issues : Told → Call → List Operation
 issues t (question p q) = []
-issues t (change p c) = operationsOf t c
+issues t (change i c) = operationsOf t c
 issues t (link l) = []
 issues t (recovery p l) = []

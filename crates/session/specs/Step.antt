@@ -21,7 +21,7 @@ use Rattle.session.specs.Send.{pushOf, fsyncOf, takeOf, renewOf}
 -- what a call answers
 unfoldable pub answerOf : Geometry → Call → Model → Answer
 answerOf g (question p q) x = asked (question p q) p x (questionAnswer (x .view) q)
-answerOf g (change p c) x = changed g (change p c) p (changeRows g (x .view) c) x
+answerOf g (change i c) x = changed g (change i c) (i .program) (changeRows g (x .view) c) x
 answerOf g (link (push q)) x = pushOf q x
 answerOf g (link (fsync p o k)) x = fsyncOf p o k x
 answerOf g (link cut) x = answer Returned.accepted [] []

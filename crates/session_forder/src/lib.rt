@@ -6,7 +6,7 @@ ghost use Rattle.volume_tree.specs.Stored.{readVolume};
 ghost use Rattle.volume_tree.specs.Code.Lent.{Lent};
 ghost use Rattle.log.specs.Order.{any};
 ghost use Rattle.session.specs.Model.{isFree};
-ghost use Rattle.session.specs.Call.{geometry, buffers};
+ghost use Rattle.session.specs.Call.{geometry, buffers, issuer};
 ghost use Rattle.session.specs.Call;
 ghost use Rattle.session.specs.Step.{given, step};
 ghost use Rattle.session.specs.Edit.{forderRows};
@@ -82,7 +82,7 @@ pub fn forder(
     list: &[u8],
 ) -> Value
     ensures { λ r. ⌜ given (r .returned) (r .value ∷ []) [] (buffers (now (server .entry)) (now (view .entry)) (now (log .exit)))
-        ≡ step (geometry n b m) (Call.forder program (now (list .entry))) (buffers (now (server .entry)) (now (view .entry)) (now (log .entry))) ⌝ }
+        ≡ step (geometry n b m) (Call.forder (issuer program) (now (list .entry))) (buffers (now (server .entry)) (now (view .entry)) (now (log .entry))) ⌝ }
 {
     let wrong = admit(n, b, m, server, view, log);
     if wrong != ACCEPTED {

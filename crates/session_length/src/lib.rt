@@ -3,7 +3,7 @@ ghost use mathlib.Core.Path.{_≡_};
 ghost use mathlib.Core.List.{[], _∷_};
 ghost use Rattle.volume_tree.specs.Stored.{readVolume};
 ghost use Rattle.volume_tree.specs.Code.Lent.{Lent};
-ghost use Rattle.session.specs.Call.{geometry, buffers};
+ghost use Rattle.session.specs.Call.{geometry, buffers, issuer};
 ghost use Rattle.session.specs.Call;
 ghost use Rattle.session.specs.Step.{given, step};
 ghost use Rattle.session.specs.Edit.{lengthRows};
@@ -45,7 +45,7 @@ pub fn set_length(
     length: usize,
 ) -> Value
     ensures { λ r. ⌜ given (r .returned) (r .value ∷ []) [] (buffers (now (server .entry)) (now (view .exit)) (now (log .exit)))
-        ≡ step (geometry n b m) (Call.setLength program object length) (buffers (now (server .entry)) (now (view .entry)) (now (log .entry))) ⌝ }
+        ≡ step (geometry n b m) (Call.setLength (issuer program) object length) (buffers (now (server .entry)) (now (view .entry)) (now (log .entry))) ⌝ }
 {
     let wrong = admit(n, b, m, server, view, log);
     if wrong != ACCEPTED {

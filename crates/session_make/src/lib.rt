@@ -3,7 +3,7 @@ ghost use mathlib.Core.Path.{_≡_};
 ghost use mathlib.Core.List.{[], _∷_};
 ghost use Rattle.volume_tree.specs.Stored.{readVolume};
 ghost use Rattle.volume_tree.specs.Code.Lent.{Lent};
-ghost use Rattle.session.specs.Call.{geometry, buffers};
+ghost use Rattle.session.specs.Call.{geometry, buffers, issuer};
 ghost use Rattle.session.specs.Call;
 ghost use Rattle.session.specs.Edit.{makeRows};
 ghost use Rattle.session.specs.Step.{given, step};
@@ -78,7 +78,7 @@ fn make(
     object: usize,
 ) -> Value
     ensures { λ r. ⌜ given (r .returned) (r .value ∷ []) [] (buffers (now (server .entry)) (now (view .exit)) (now (log .exit)))
-        ≡ step (geometry n b m) (makeCall directory program parent (now (name .entry)) object) (buffers (now (server .entry)) (now (view .entry)) (now (log .entry))) ⌝ }
+        ≡ step (geometry n b m) (makeCall directory (issuer program) parent (now (name .entry)) object) (buffers (now (server .entry)) (now (view .entry)) (now (log .entry))) ⌝ }
 {
     let wrong = admit(n, b, m, server, view, log);
     if wrong != ACCEPTED {
@@ -109,7 +109,7 @@ pub fn create(
     object: usize,
 ) -> Value
     ensures { λ r. ⌜ given (r .returned) (r .value ∷ []) [] (buffers (now (server .entry)) (now (view .exit)) (now (log .exit)))
-        ≡ step (geometry n b m) (Call.createFile program parent (now (name .entry)) object) (buffers (now (server .entry)) (now (view .entry)) (now (log .entry))) ⌝ }
+        ≡ step (geometry n b m) (Call.createFile (issuer program) parent (now (name .entry)) object) (buffers (now (server .entry)) (now (view .entry)) (now (log .entry))) ⌝ }
 {
     make(
         n,
@@ -140,7 +140,7 @@ pub fn make_directory(
     object: usize,
 ) -> Value
     ensures { λ r. ⌜ given (r .returned) (r .value ∷ []) [] (buffers (now (server .entry)) (now (view .exit)) (now (log .exit)))
-        ≡ step (geometry n b m) (Call.makeDirectory program parent (now (name .entry)) object) (buffers (now (server .entry)) (now (view .entry)) (now (log .entry))) ⌝ }
+        ≡ step (geometry n b m) (Call.makeDirectory (issuer program) parent (now (name .entry)) object) (buffers (now (server .entry)) (now (view .entry)) (now (log .entry))) ⌝ }
 {
     make(
         n,

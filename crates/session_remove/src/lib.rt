@@ -6,7 +6,7 @@ ghost use mathlib.Core.List.{[], _∷_};
 ghost use Rattle.volume_tree.specs.Volume.{entryAt};
 ghost use Rattle.volume_tree.specs.Stored.{readVolume};
 ghost use Rattle.volume_tree.specs.Code.Lent.{Lent};
-ghost use Rattle.session.specs.Call.{geometry, buffers};
+ghost use Rattle.session.specs.Call.{geometry, buffers, issuer};
 ghost use Rattle.session.specs.Call;
 ghost use Rattle.session.specs.Edit.{removeRows};
 ghost use Rattle.session.specs.Step.{given, step};
@@ -102,7 +102,7 @@ fn remove(
     name: &[u8],
 ) -> Value
     ensures { λ r. ⌜ given (r .returned) (r .value ∷ []) [] (buffers (now (server .entry)) (now (view .exit)) (now (log .exit)))
-        ≡ step (geometry n b m) (removeCall directory program parent (now (name .entry))) (buffers (now (server .entry)) (now (view .entry)) (now (log .entry))) ⌝ }
+        ≡ step (geometry n b m) (removeCall directory (issuer program) parent (now (name .entry))) (buffers (now (server .entry)) (now (view .entry)) (now (log .entry))) ⌝ }
 {
     let wrong = admit(n, b, m, server, view, log);
     if wrong != ACCEPTED {
@@ -132,7 +132,7 @@ pub fn remove_file(
     name: &[u8],
 ) -> Value
     ensures { λ r. ⌜ given (r .returned) (r .value ∷ []) [] (buffers (now (server .entry)) (now (view .exit)) (now (log .exit)))
-        ≡ step (geometry n b m) (Call.removeFile program parent (now (name .entry))) (buffers (now (server .entry)) (now (view .entry)) (now (log .entry))) ⌝ }
+        ≡ step (geometry n b m) (Call.removeFile (issuer program) parent (now (name .entry))) (buffers (now (server .entry)) (now (view .entry)) (now (log .entry))) ⌝ }
 {
     remove(n, b, m, server, view, log, false, program, parent, name)
 }
@@ -150,7 +150,7 @@ pub fn remove_directory(
     name: &[u8],
 ) -> Value
     ensures { λ r. ⌜ given (r .returned) (r .value ∷ []) [] (buffers (now (server .entry)) (now (view .exit)) (now (log .exit)))
-        ≡ step (geometry n b m) (Call.removeDirectory program parent (now (name .entry))) (buffers (now (server .entry)) (now (view .entry)) (now (log .entry))) ⌝ }
+        ≡ step (geometry n b m) (Call.removeDirectory (issuer program) parent (now (name .entry))) (buffers (now (server .entry)) (now (view .entry)) (now (log .entry))) ⌝ }
 {
     remove(n, b, m, server, view, log, true, program, parent, name)
 }

@@ -10,7 +10,7 @@ ghost use Rattle.volume_entry.specs.Entry.{isDirectory};
 ghost use Rattle.volume_tree.specs.Volume.{entryAt, search};
 ghost use Rattle.volume_tree.specs.Stored.{readVolume};
 ghost use Rattle.volume_tree.specs.Code.Lent.{Lent};
-ghost use Rattle.session.specs.Call.{geometry, buffers};
+ghost use Rattle.session.specs.Call.{geometry, buffers, issuer};
 ghost use Rattle.session.specs.Call;
 ghost use Rattle.session.specs.Issue.{displaced};
 ghost use Rattle.session.specs.Step.{given, step};
@@ -160,7 +160,7 @@ pub fn rename(
     second_name: &[u8],
 ) -> Value
     ensures { λ r. ⌜ given (r .returned) (r .value ∷ []) [] (buffers (now (server .entry)) (now (view .exit)) (now (log .exit)))
-        ≡ step (geometry n b m) (Call.rename program parent (now (name .entry)) «second_parent» (now («second_name» .entry))) (buffers (now (server .entry)) (now (view .entry)) (now (log .entry))) ⌝ }
+        ≡ step (geometry n b m) (Call.rename (issuer program) parent (now (name .entry)) «second_parent» (now («second_name» .entry))) (buffers (now (server .entry)) (now (view .entry)) (now (log .entry))) ⌝ }
 {
     let wrong = admit(n, b, m, server, view, log);
     if wrong != ACCEPTED {

@@ -4,7 +4,7 @@ ghost use Prim.Native.Nat.{_≤_};
 ghost use mathlib.Core.List.{[], _∷_};
 ghost use Rattle.volume_tree.specs.Stored.{readVolume};
 ghost use Rattle.volume_tree.specs.Code.Lent.{Lent};
-ghost use Rattle.session.specs.Call.{geometry, buffers};
+ghost use Rattle.session.specs.Call.{geometry, buffers, issuer};
 ghost use Rattle.session.specs.Call;
 ghost use Rattle.session.specs.Step.{given, step};
 ghost use Rattle.session.specs.Edit.{badRange, writeRows};
@@ -81,7 +81,7 @@ pub fn write(
     data: &[u8],
 ) -> Value
     ensures { λ r. ⌜ given (r .returned) (r .value ∷ []) [] (buffers (now (server .entry)) (now (view .exit)) (now (log .exit)))
-        ≡ step (geometry n b m) (Call.write program object offset (now («data» .entry))) (buffers (now (server .entry)) (now (view .entry)) (now (log .entry))) ⌝ }
+        ≡ step (geometry n b m) (Call.write (issuer program) object offset (now («data» .entry))) (buffers (now (server .entry)) (now (view .entry)) (now (log .entry))) ⌝ }
 {
     let wrong = admit(n, b, m, server, view, log);
     if wrong != ACCEPTED {

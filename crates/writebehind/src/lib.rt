@@ -4,7 +4,7 @@ ghost use mathlib.Core.Path.{_≡_};
 ghost use mathlib.Core.List.{[], _∷_};
 ghost use lib.ListN.{drop};
 ghost use Rattle.record.specs.Decode.{decodeRecord};
-ghost use Rattle.session.specs.Call.{geometry, buffers};
+ghost use Rattle.session.specs.Call.{geometry, buffers, issuer};
 ghost use Rattle.session.specs.Call;
 ghost use Rattle.session.specs.Step.{given, step, format, formatLeaves, mount};
 ghost use Rattle.writebehind.specs.Loss.{lossOf};
@@ -171,7 +171,7 @@ pub extern "C" fn wb_create(
     object: u64,
 ) -> Value
     ensures { λ r. ⌜ given (r .returned) (r .value ∷ []) [] (buffers (now (server .entry)) (now (view .exit)) (now (log .exit)))
-        ≡ step (geometry n b m) (Call.createFile program parent (now (name .entry)) object) (buffers (now (server .entry)) (now (view .entry)) (now (log .entry))) ⌝ }
+        ≡ step (geometry n b m) (Call.createFile (issuer program) parent (now (name .entry)) object) (buffers (now (server .entry)) (now (view .entry)) (now (log .entry))) ⌝ }
 {
     session_make::create(
         n as usize,
@@ -202,7 +202,7 @@ pub extern "C" fn wb_mkdir(
     object: u64,
 ) -> Value
     ensures { λ r. ⌜ given (r .returned) (r .value ∷ []) [] (buffers (now (server .entry)) (now (view .exit)) (now (log .exit)))
-        ≡ step (geometry n b m) (Call.makeDirectory program parent (now (name .entry)) object) (buffers (now (server .entry)) (now (view .entry)) (now (log .entry))) ⌝ }
+        ≡ step (geometry n b m) (Call.makeDirectory (issuer program) parent (now (name .entry)) object) (buffers (now (server .entry)) (now (view .entry)) (now (log .entry))) ⌝ }
 {
     session_make::make_directory(
         n as usize,
@@ -232,7 +232,7 @@ pub extern "C" fn wb_remove_file(
     name: &[u8],
 ) -> Value
     ensures { λ r. ⌜ given (r .returned) (r .value ∷ []) [] (buffers (now (server .entry)) (now (view .exit)) (now (log .exit)))
-        ≡ step (geometry n b m) (Call.removeFile program parent (now (name .entry))) (buffers (now (server .entry)) (now (view .entry)) (now (log .entry))) ⌝ }
+        ≡ step (geometry n b m) (Call.removeFile (issuer program) parent (now (name .entry))) (buffers (now (server .entry)) (now (view .entry)) (now (log .entry))) ⌝ }
 {
     session_remove::remove_file(
         n as usize,
@@ -261,7 +261,7 @@ pub extern "C" fn wb_remove_directory(
     name: &[u8],
 ) -> Value
     ensures { λ r. ⌜ given (r .returned) (r .value ∷ []) [] (buffers (now (server .entry)) (now (view .exit)) (now (log .exit)))
-        ≡ step (geometry n b m) (Call.removeDirectory program parent (now (name .entry))) (buffers (now (server .entry)) (now (view .entry)) (now (log .entry))) ⌝ }
+        ≡ step (geometry n b m) (Call.removeDirectory (issuer program) parent (now (name .entry))) (buffers (now (server .entry)) (now (view .entry)) (now (log .entry))) ⌝ }
 {
     session_remove::remove_directory(
         n as usize,
@@ -292,7 +292,7 @@ pub extern "C" fn wb_rename(
     second_name: &[u8],
 ) -> Value
     ensures { λ r. ⌜ given (r .returned) (r .value ∷ []) [] (buffers (now (server .entry)) (now (view .exit)) (now (log .exit)))
-        ≡ step (geometry n b m) (Call.rename program parent (now (name .entry)) «second_parent» (now («second_name» .entry))) (buffers (now (server .entry)) (now (view .entry)) (now (log .entry))) ⌝ }
+        ≡ step (geometry n b m) (Call.rename (issuer program) parent (now (name .entry)) «second_parent» (now («second_name» .entry))) (buffers (now (server .entry)) (now (view .entry)) (now (log .entry))) ⌝ }
 {
     session_rename::rename(
         n as usize,
@@ -324,7 +324,7 @@ pub extern "C" fn wb_write(
     data: &[u8],
 ) -> Value
     ensures { λ r. ⌜ given (r .returned) (r .value ∷ []) [] (buffers (now (server .entry)) (now (view .exit)) (now (log .exit)))
-        ≡ step (geometry n b m) (Call.write program object offset (now («data» .entry))) (buffers (now (server .entry)) (now (view .entry)) (now (log .entry))) ⌝ }
+        ≡ step (geometry n b m) (Call.write (issuer program) object offset (now («data» .entry))) (buffers (now (server .entry)) (now (view .entry)) (now (log .entry))) ⌝ }
 {
     session_write::write::write(
         n as usize,
@@ -354,7 +354,7 @@ pub extern "C" fn wb_setlen(
     length: u64,
 ) -> Value
     ensures { λ r. ⌜ given (r .returned) (r .value ∷ []) [] (buffers (now (server .entry)) (now (view .exit)) (now (log .exit)))
-        ≡ step (geometry n b m) (Call.setLength program object length) (buffers (now (server .entry)) (now (view .entry)) (now (log .entry))) ⌝ }
+        ≡ step (geometry n b m) (Call.setLength (issuer program) object length) (buffers (now (server .entry)) (now (view .entry)) (now (log .entry))) ⌝ }
 {
     session_length::set_length(
         n as usize,
@@ -382,7 +382,7 @@ pub extern "C" fn wb_forder(
     list: &[u8],
 ) -> Value
     ensures { λ r. ⌜ given (r .returned) (r .value ∷ []) [] (buffers (now (server .entry)) (now (view .entry)) (now (log .exit)))
-        ≡ step (geometry n b m) (Call.forder program (now (list .entry))) (buffers (now (server .entry)) (now (view .entry)) (now (log .entry))) ⌝ }
+        ≡ step (geometry n b m) (Call.forder (issuer program) (now (list .entry))) (buffers (now (server .entry)) (now (view .entry)) (now (log .entry))) ⌝ }
 {
     session_forder::forder(
         n as usize,

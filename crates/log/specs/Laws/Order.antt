@@ -187,16 +187,6 @@ module _ (pick : Record → Bool) where
 abbrev pub hasOperand : ℕ → Record → Bool
 hasOperand o r = member o (operands (r .operation))
 
--- the operations that fsync needs are some of those waiting, in issue order
-pub needed-sublist : (o : ℕ) (l : List Record) → Sublistᴰ (needed o l) l
-unfolding needed
-needed-sublist o l = closure-sublist (hasOperand o) before l
-
--- each operation that fsync needs is one of those waiting
-pub needed-in : (o : ℕ) (l : List Record) {a : Record} → List·Memᴰ a (needed o l) → List·Memᴰ a l
-unfolding needed
-needed-in o l m = closure-in (hasOperand o) before l m
-
 -- each waiting operation that precedes a needed one is needed
 pub needed-closed : (o : ℕ) (l : List Record) → InOrder l → {a b : Record} → List·Memᴰ a l → List·Memᴰ b (needed o l) → PrecedesIn l a b → List·Memᴰ a (needed o l)
 unfolding needed

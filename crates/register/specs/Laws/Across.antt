@@ -164,7 +164,7 @@ across g s v mounted cs m h w =
     let x = k .model in
     let r = m .before .register in
     let after = next g (m .call) (m .before) .register in
-    let p = w .program in
+    let p = w .by .program in
     let a = firstOf p (firstOperation w) (secondOperation w) r in
     let b = secondOf p (firstOperation w) (secondOperation w) r in
     let accepted : answerOf g (m .call) x .returned ≡ 0 = ap (λ (y : Answer). y .returned) (sym (k .answer)) ∙ w .accepted in
@@ -186,7 +186,7 @@ across g s v mounted cs m h w =
       wait = (refl, refl);
       told =
           ap (λ (y : Answer). y .results) (k .answer) ∙ ap (λ (c : Call). answerOf g c x .results) (w .call)
-          ∙ change-answered g x (k .led .good .kept .sound) (w .program) (Class.write (w .object) (w .offset) (w .bytes)) (ap (λ (c : Call). answerOf g c x .returned) (sym (w .call)) ∙ accepted) .results
+          ∙ change-answered g x (k .led .good .kept .sound) (w .by) (Class.write (w .object) (w .offset) (w .bytes)) (ap (λ (c : Call). answerOf g c x .returned) (sym (w .call)) ∙ accepted) .results
           ∙ ap (λ (n : ℕ). n ∷ []) (k .led .good .kept .next);
       may = f .1;
       never = f .0;

@@ -24,7 +24,7 @@ use Rattle.session.specs.Effect.{note}
 use Rattle.session.specs.Laws.Ready.{needed-ready, in-take, order-apart}
 use Rattle.register.specs.Register.{Register, Acknowledged, Touch, Renewal, Fate, sent, lost, isWaiting, recordedOf, fated}
 use Rattle.register.specs.History.{Is, Precedes, Reaches, Marked}
-use Rattle.register.specs.Feed.{neededFor, enter, sendAll, losing, loseAll}
+use Rattle.register.specs.Feed.{hasObject, neededFor, enter, sendAll, losing, loseAll}
 use Rattle.register.specs.Claim.{Covers}
 use Rattle.register.specs.Laws.Happen.{happen}
 use Rattle.register.specs.Laws.Fate.{Among, no-both, lose-record, lose-issued}
@@ -65,7 +65,7 @@ chain-before (PrecedesIn.direct {a = a} {b = b} h) m c =
 chain-before (PrecedesIn.through n p q) m c = chain-before p n (chain-before q m c)
 
 module _ (r : Register) (timed : Timed (r .operations) (r .happened)) (o : ℕ) where
-  covers-chain : (a : Acknowledged) → Covers r o a → Chain (o ∷ []) (map recordedOf (picked isWaiting (r .operations))) (a .recorded)
+  covers-chain : (a : Acknowledged) → Covers r (hasObject o) a → Chain (o ∷ []) (map recordedOf (picked isWaiting (r .operations))) (a .recorded)
   covers-chain a c =
       subst (λ (l : List Record). Chain (o ∷ []) l (a .recorded)) (chosen-picked isWaiting (r .operations))
       (⊎-elim (λ (h : member o (operands (a .recorded .operation)) ≡ true). last (shares-object o (operands (a .recorded .operation)) h))
@@ -126,14 +126,14 @@ module _ (g : Geometry) (r : Register) (x : Model) (good : Good g r x) (known : 
       subst (λ (b : Acknowledged). isWaiting b ≡ true) same (c .2 .waits)
 
   -- a waiting operation on which the call of an fsync depends is one that it covers
-  pub reached-covered : (a : Acknowledged) → Is a r → isWaiting a ≡ true → Reaches r a (record { program = p; touched = o ∷ []; time = r .happened }) → Covers r o a
+  pub reached-covered : (a : Acknowledged) → Is a r → isWaiting a ≡ true → Reaches r a (record { program = p; touched = o ∷ []; time = r .happened }) → Covers r (hasObject o) a
   reached-covered a m w h =
       let t : Touch = record { program = p; touched = o ∷ []; time = r .happened } in
       let there = chosen-there isWaiting (r .operations) a m w in
       let c = subst (λ (l : List Record). Chain (o ∷ []) l (a .recorded)) (sym (chosen-picked isWaiting (r .operations))) (reaches-chain r (good .timed) t refl a m w h) in
       let n = chain-needed (chosen-rising isWaiting (r .operations) rise) c there (a .recorded) there (omega arith) refl in
       let d = needs-exact r (good .timed) rise o (a .recorded) .0 (subst (λ (l : List Record). List·Memᴰ (a .recorded) l) (sym (covered-needed o (r .operations))) n) in
-      subst (Covers r o) (rising-unique recordedOf (r .operations) rise (d .0) a (d .2 .acknowledged) m (ap (λ (q : Record). q .sequence) (d .1))) (d .2)
+      subst (Covers r (hasObject o)) (rising-unique recordedOf (r .operations) rise (d .0) a (d .2 .acknowledged) m (ap (λ (q : Record). q .sequence) (d .1))) (d .2)
 
   abbrev pub left : Register
   left = loseAll (sendAll (take k need) asked)

@@ -22,7 +22,7 @@ use Rattle.log.specs.Laws.Order.{Rising, direct-decides}
 use Rattle.log.specs.Change.{waitingOf, lossesOf}
 use Rattle.log.specs.Laws.Change.{at-waiting, waiting-at, waiting-in-order}
 use Rattle.session.specs.Class.{Change}
-use Rattle.session.specs.Call.{Geometry, Buffers, Call, change, fsync, push, take as takeLoss, Answer}
+use Rattle.session.specs.Call.{Geometry, Buffers, Issuer, Call, change, fsync, push, take as takeLoss, Answer}
 use Rattle.session.specs.Model.{Model, mountedModel, toldOf}
 use Rattle.log.specs.Sends.{applying}
 use Rattle.session.specs.Effect.{Effect, note, issue, send, sends, perform, acceptedEffects, refusedEffects, effectsOf}
@@ -34,7 +34,7 @@ use Rattle.session.specs.Laws.Answer.{Damaged, byPush, bySync, damaged-why, pus
 use Rattle.session.specs.Laws.Step.{step-holds}
 use Rattle.register.specs.Replay.{replay}
 use Rattle.register.specs.Register.{Register, begun, Acknowledged, isWaiting, isSent, chosen, sentIn}
-use Rattle.register.specs.Feed.{feed, neededFor, acknowledged, sending}
+use Rattle.register.specs.Feed.{feed, hasObject, neededFor, acknowledged, sending}
 use Rattle.register.specs.Laws.Happen.{happen, happenAll}
 use Rattle.register.specs.History.{Is, Marked}
 use Rattle.register.specs.Run.{State, Moment, Run, next, Mounted, play}
@@ -118,7 +118,7 @@ sends-send (y ∷ l) r a m z k e =
 
 module _ (g : Geometry) (v : Volume) where
   -- an accepted fsync sends what it covers
-  fsync-sends : (s : State) (x : Model) → Led g v s x → (p o k : ℕ) → answerOf g (fsync p o k) x .returned ≡ 0 → (a : Acknowledged) → Covers (s .register) o a
+  fsync-sends : (s : State) (x : Model) → Led g v s x → (p o k : ℕ) → answerOf g (fsync p o k) x .returned ≡ 0 → (a : Acknowledged) → Covers (s .register) (hasObject o) a
       → SentAt (next g (fsync p o k) s .register) (a .recorded .sequence)
   unfolding happenAll happen
   fsync-sends s x l p o k e a c =
@@ -135,10 +135,10 @@ module _ (g : Geometry) (v : Volume) where
   unfolding answerOf
   answers m r k =
       record {
-        number = λ p d is e o os q. ap (λ (a : Answer). a .results) (same (change p d) is) ∙ made p d is e .results ∙ ap (λ (n : ℕ). n ∷ []) (k .led .good .kept .next);
-        some = λ p d is e.
-            let c = made p d is e in
-            (c .first, c .others, operations-same g (m .before .register) x (k .led .good) p d (by (change p d) is 0 e) ∙ c .issued);
+        number = λ i d is e o os q. ap (λ (a : Answer). a .results) (same (change i d) is) ∙ made i d is e .results ∙ ap (λ (n : ℕ). n ∷ []) (k .led .good .kept .next);
+        some = λ i d is e.
+            let c = made i d is e in
+            (c .first, c .others, operations-same g (m .before .register) x (k .led .good) i d (by (change i d) is 0 e) ∙ c .issued);
         sync = λ p o j is e.
             ap (λ (a : Answer). a .results) (same (fsync p o j) is) ∙ sync-answered p o j x (by (fsync p o j) is 0 e) ∙ ap (λ (l : List Record). length l ∷ []) (sym (need o));
         link = λ p o j is e.
@@ -158,8 +158,8 @@ module _ (g : Geometry) (v : Volume) where
       need : (o : ℕ) → neededFor o (m .before .register) ≡ needed o (waitingOf (k .model .log .slots))
       need o = needed-same g (m .before .register) (k .model) (k .led .good) o
 
-      made : (p : ℕ) (d : Change) → m .call ≡ change p d → m .answer .returned ≡ 0 → Changes g (change p d) (k .model)
-      made p d is e = change-answered g (k .model) (k .led .good .kept .sound) p d (by (change p d) is 0 e)
+      made : (i : Issuer) (d : Change) → m .call ≡ change i d → m .answer .returned ≡ 0 → Changes g (change i d) (k .model)
+      made i d is e = change-answered g (k .model) (k .led .good .kept .sound) i d (by (change i d) is 0 e)
 
   -- the push of a waiting operation
   push-exact : (s : State) (x : Model) → Led g v s x → (a : Acknowledged) → Is a (s .register) → isWaiting a ≡ true

@@ -1,15 +1,15 @@
--- What an fsync covers, by the register's own closure, is what it needs by the records of those that wait.
+-- What the register's own closure covers is what the closure over the records of those that wait has; so what an fsync covers is what it needs.
 use Prim.Native.Nat.{ℕ}
 use mathlib.Core.Path.{_≡_, refl, ap, _∙_}
-use mathlib.Core.List.{List, [], _∷_, map}
+use mathlib.Core.List.{List, [], _∷_, map, List·Memᴰ, List·Memᴰ·head, List·Memᴰ·tail}
 use mathlib.Core.Bool.{Bool, true, false, not, _&&_, _||_, cond}
 use lib.Dec.{ltb}
-use Rattle.record.specs.Operation.{operands}
-use Rattle.record.specs.Fields.{member}
+use Rattle.record.specs.Operation.{Record}
 use Rattle.log.specs.Order.{directlyPrecedes, any, closure, before, needed}
+use Rattle.log.specs.Laws.Order.{hasOperand}
 use Rattle.register.specs.Register.{Acknowledged, isWaiting, chosen, recordedOf}
 use Rattle.register.specs.History.{directly}
-use Rattle.register.specs.Feed.{precedesSome, covered}
+use Rattle.register.specs.Feed.{precedesSome, covered, hasObject}
 use Rattle.register.specs.Laws.Fate.{waiting-there}
 
 -- among waiting operations "directly precedes" goes by the records
@@ -23,19 +23,28 @@ unfolding precedesSome any
 some-before a w [] = refl
 some-before a w (b ∷ l) = λ i. directly-before a b w i || some-before a w l i
 
-pub covered-needed : (o : ℕ) (l : List Acknowledged) → map recordedOf (covered o l) ≡ needed o (chosen isWaiting l)
-unfolding covered needed closure chosen
-covered-needed o [] = refl
-covered-needed o (a ∷ l) = go (isWaiting a) refl (covered-needed o l)
+-- a test of the records that says the same of those that wait
+abbrev pub Alike : (Acknowledged → Bool) → (Record → Bool) → List Acknowledged → Type 0
+Alike pick test l = (a : Acknowledged) → List·Memᴰ a l → isWaiting a ≡ true → pick a ≡ test (a .recorded)
+
+pub covered-closure : (pick : Acknowledged → Bool) (test : Record → Bool) (l : List Acknowledged) → Alike pick test l
+    → map recordedOf (covered pick l) ≡ closure test before (chosen isWaiting l)
+unfolding covered closure chosen
+covered-closure pick test [] same = refl
+covered-closure pick test (a ∷ l) same = go (isWaiting a) refl (covered-closure pick test l (λ b m w. same b (List·Memᴰ·tail m) w))
   where
-    records : (t : Bool) → map recordedOf (cond t (a ∷ covered o l) (covered o l)) ≡ cond t (a .recorded ∷ map recordedOf (covered o l)) (map recordedOf (covered o l))
+    records : (t : Bool) → map recordedOf (cond t (a ∷ covered pick l) (covered pick l)) ≡ cond t (a .recorded ∷ map recordedOf (covered pick l)) (map recordedOf (covered pick l))
     records true = refl
     records false = refl
 
-    go : (t : Bool) → isWaiting a ≡ t → map recordedOf (covered o l) ≡ needed o (chosen isWaiting l)
-        → map recordedOf (cond (t && (member o (operands (a .recorded .operation)) || precedesSome a (covered o l))) (a ∷ covered o l) (covered o l))
-        ≡ needed o (cond t (a .recorded ∷ chosen isWaiting l) (chosen isWaiting l))
+    go : (t : Bool) → isWaiting a ≡ t → map recordedOf (covered pick l) ≡ closure test before (chosen isWaiting l)
+        → map recordedOf (cond (t && (pick a || precedesSome a (covered pick l))) (a ∷ covered pick l) (covered pick l))
+        ≡ closure test before (cond t (a .recorded ∷ chosen isWaiting l) (chosen isWaiting l))
     go false e ih = ih
     go true e ih =
-        records (member o (operands (a .recorded .operation)) || precedesSome a (covered o l))
-        ∙ (λ i. cond (member o (operands (a .recorded .operation)) || (some-before a e (covered o l) ∙ ap (any (before (a .recorded))) ih) i) (a .recorded ∷ ih i) (ih i))
+        records (pick a || precedesSome a (covered pick l))
+        ∙ (λ i. cond (same a (List·Memᴰ·head refl) e i || (some-before a e (covered pick l) ∙ ap (any (before (a .recorded))) ih) i) (a .recorded ∷ ih i) (ih i))
+
+pub covered-needed : (o : ℕ) (l : List Acknowledged) → map recordedOf (covered (hasObject o) l) ≡ needed o (chosen isWaiting l)
+unfolding needed
+covered-needed o l = covered-closure (hasObject o) (hasOperand o) l (λ a m w. refl)

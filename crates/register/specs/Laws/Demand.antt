@@ -177,7 +177,7 @@ no-effects g c x n l d = ap (λ (b : Bool). cond b (acceptedEffects c w) (refuse
 
     none : (e : Call) → c ≡ e → (a : Answer) → (a .returned ≡ Returned.linkLost → ⊥) → (a .returned ≡ Returned.damaged → (p o k : ℕ) → e ≡ fsync p o k → ⊥) → refusedEffects e a w ≡ []
     none (question p q) is a l d = refl
-    none (change p c) is a l d = refl
+    none (change i c) is a l d = refl
     none (link (Class.push q)) is a l d = refl
     none (link (Class.fsync p o k)) is a l d =
         (λ i. cond (ne-eqb (a .returned) 17 l i) (note p (o ∷ []) ∷ (sends (take k (needed o (w .waiting))) ++ (discard ∷ []))) (cond (ne-eqb (a .returned) 2 (λ z. d z p o k refl) i) (sends (take (getD (a .results) 0 0) (needed o (w .waiting)))) []))

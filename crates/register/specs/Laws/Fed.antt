@@ -24,7 +24,7 @@ use Rattle.log.specs.Order.{needed}
 use Rattle.log.specs.Change.{waitingOf}
 use Rattle.session.specs.Class.{Question, Change}
 use Rattle.session.specs.Class
-use Rattle.session.specs.Call.{Geometry, Call, question, change, link, recovery, Answer}
+use Rattle.session.specs.Call.{Geometry, Issuer, Call, question, change, link, recovery, Answer}
 use Rattle.session.specs.Model.{Model, programRows, toldOf}
 use Rattle.session.specs.Issue
 use Rattle.session.specs.Issue.{writesAt, operationsOf}
@@ -116,17 +116,17 @@ path-passed v s e = go (leb 1 (length s) && (leb (length s) 1023 && eqb (getD s 
 
 module _ (g : Geometry) (x : Model) (h : Sound g x) where
   -- a change's operations, and a question's operands, where the call is accepted
-  made-same : (p : ℕ) (c : Change) → answerOf g (change p c) x .returned ≡ 0 → operationsIn (x .view) c ≡ operationsOf (toldOf x) c
+  made-same : (i : Issuer) (c : Change) → answerOf g (change i c) x .returned ≡ 0 → operationsIn (x .view) c ≡ operationsOf (toldOf x) c
   unfolding answerOf
-  made-same p (Class.createFile d n o) e = refl
-  made-same p (Class.makeDirectory d n o) e = refl
-  made-same p (Class.removeFile d n) e = found-same (search (x .view) d n) _
-  made-same p (Class.removeDirectory d n) e = found-same (search (x .view) d n) _
-  made-same p (Class.rename d n b k) e = renamed-same (x .view) d b n k (search (x .view) d n)
-  made-same p (Class.write o f s) e =
-      writing-same (length (contentsOf (entryAt (x .view) o))) o f s (write-some g x h p o f s e) (write-begins g x h p o f s e)
-  made-same p (Class.setLength o f) e = refl
-  made-same p (Class.forder s) e = refl
+  made-same i (Class.createFile d n o) e = refl
+  made-same i (Class.makeDirectory d n o) e = refl
+  made-same i (Class.removeFile d n) e = found-same (search (x .view) d n) _
+  made-same i (Class.removeDirectory d n) e = found-same (search (x .view) d n) _
+  made-same i (Class.rename d n b k) e = renamed-same (x .view) d b n k (search (x .view) d n)
+  made-same i (Class.write o f s) e =
+      writing-same (length (contentsOf (entryAt (x .view) o))) o f s (write-some g x h i o f s e) (write-begins g x h i o f s e)
+  made-same i (Class.setLength o f) e = refl
+  made-same i (Class.forder s) e = refl
 
   asked-same : (p : ℕ) (q : Question) → answerOf g (question p q) x .returned ≡ 0 → operandsIn (x .view) q ≡ askedOf (x .view) q
   unfolding answerOf
@@ -146,14 +146,14 @@ module _ (g : Geometry) (r : Register) (x : Model) (k : Good g r x) where
   view-same = view-replayed g r x (k .kept)
 
   -- the operations that an accepted change is
-  pub operations-same : (p : ℕ) (c : Change) → answerOf g (change p c) x .returned ≡ 0 → operationsIn (viewOf r) c ≡ operationsOf (toldOf x) c
-  operations-same p c e = ap (λ (v : Volume). operationsIn v c) view-same ∙ made-same g x (k .kept .sound) p c e
+  pub operations-same : (i : Issuer) (c : Change) → answerOf g (change i c) x .returned ≡ 0 → operationsIn (viewOf r) c ≡ operationsOf (toldOf x) c
+  operations-same i c e = ap (λ (v : Volume). operationsIn v c) view-same ∙ made-same g x (k .kept .sound) i c e
 
   accepted-fed : (c : Call) → answerOf g c x .returned ≡ 0 → accepted c r ≡ happenAll (acceptedEffects c (toldOf x)) r
   unfolding happenAll happen
   accepted-fed (question p q) e = ap (λ (l : List ℕ). enter p l r) (ap (λ (v : Volume). operandsIn v q) view-same ∙ asked-same g x (k .kept .sound) p q e)
-  accepted-fed (change p c) e =
-      ap (λ (l : List Operation). addAll p l r) (operations-same p c e) ∙ adds-issued p (operationsOf (toldOf x) c) r
+  accepted-fed (change i c) e =
+      ap (λ (l : List Operation). addAll (i .program) l r) (operations-same i c e) ∙ adds-issued (i .program) (operationsOf (toldOf x) c) r
   accepted-fed (link (Class.push q)) e = refl
   accepted-fed (link (Class.fsync p o j)) e = ap (λ (l : List Record). sendAll l (enter p (o ∷ []) r)) (needed-same o) ∙ sent-all (needed o (waitingOf (x .log .slots))) (enter p (o ∷ []) r)
   accepted-fed (link Class.cut) e = refl
@@ -163,7 +163,7 @@ module _ (g : Geometry) (r : Register) (x : Model) (k : Good g r x) where
   refused-fed : (c : Call) (a : Answer) → refused c a r ≡ happenAll (refusedEffects c a (toldOf x)) r
   unfolding happenAll happen
   refused-fed (question p q) a = refl
-  refused-fed (change p c) a = refl
+  refused-fed (change i c) a = refl
   refused-fed (link (Class.push q)) a = refl
   refused-fed (link (Class.fsync p o j)) a = go (eqb (a .returned) Returned.linkLost) (eqb (a .returned) Returned.damaged)
     where

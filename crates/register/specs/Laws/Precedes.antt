@@ -6,15 +6,14 @@ use mathlib.Core.Logic.{_⊎_, _↔_, inl, inr, ⊎-elim}
 use mathlib.Core.List.{List, List·Memᴰ}
 use mathlib.Core.Bool.{Bool, true, false, _&&_, and-eq-true-iff}
 use borrow.Author.Tests.{lt-ltb}
-use Rattle.record.specs.Operation.{Record, operands}
-use Rattle.record.specs.Fields.{member}
+use Rattle.record.specs.Operation.{Record}
 use Rattle.log.specs.Order.{before, preceded, PrecedesIn}
-use Rattle.log.specs.Laws.Order.{Rising, Reason, hasOperand, before-earlier, before-ordered, before-of, preceded-exact, needed-exact}
+use Rattle.log.specs.Laws.Order.{Rising, Reason, hasOperand, before-earlier, before-ordered, before-of, closure-exact, preceded-exact}
 use Rattle.register.specs.Register.{Register, Acknowledged, lost, isWaiting, isSent, chosen, waitingIn}
-use Rattle.register.specs.Feed.{neededFor}
+use Rattle.register.specs.Feed.{coveredIn, hasObject, neededFor}
 use Rattle.register.specs.History.{Is, goneBy, lostBefore, directly, Precedes}
 use Rattle.register.specs.Claim.{Covers, Unpreceded}
-use Rattle.register.specs.Laws.Covered.{covered-needed}
+use Rattle.register.specs.Laws.Covered.{Alike, covered-closure}
 use Rattle.register.specs.Laws.Fate.{FateIs, waits, went, gone, fate-is, no-both, waits-not-sent, waiting-there}
 use Rattle.register.specs.Laws.Invariant.{Timed}
 use Rattle.register.specs.Laws.Operation.{chosen-picked, chosen-there, chosen-in, chosen-rising, Waits, waits-of}
@@ -92,34 +91,42 @@ unpreceded r t a ma wa = (
         absurd (u (w .who) (w .among) (w .waiting) (precedes-waiting r (x .2) (w .who) a (w .waiting) (w .recorded) refl))
     go u false e = refl
 
--- what fsync of an object needs is exactly what it covers
-pub needs-exact : (r : Register) → Timed (r .operations) (r .happened) → Rising (λ a. a .recorded .sequence) (r .operations) → (o : ℕ) (q : Record)
-    → List·Memᴰ q (neededFor o r) ↔ ((a : Acknowledged) × (a .recorded ≡ q) × Covers r o a)
-needs-exact r t rise o q = (
-  λ m. let x = exact .0 m in let w = waits-in r q (x .0) in (w .who, w .recorded, record { acknowledged = w .among; waits = w .waiting; why = covers w (x .1) }),
-  λ c. exact .1 (
-    subst (λ (z : Record). List·Memᴰ z (waitingIn r)) (c .1) (chosen-there isWaiting (r .operations) (c .0) (c .2 .acknowledged) (c .2 .waits)),
-    subst (Reason (hasOperand o) (waitingIn r)) (c .1) (reason (c .0) (c .2)),
-  ),
-)
-  where
-    exact : List·Memᴰ q (neededFor o r) ↔ (List·Memᴰ q (waitingIn r) × Reason (hasOperand o) (waitingIn r) q)
-    exact = subst (λ (l : List Record). List·Memᴰ q l ↔ (List·Memᴰ q (waitingIn r) × Reason (hasOperand o) (waitingIn r) q)) (sym (covered-needed o (r .operations))) (needed-exact o (waitingIn r) (chosen-rising isWaiting (r .operations) rise) q)
+module _ (r : Register) (t : Timed (r .operations) (r .happened)) (rise : Rising (λ a. a .recorded .sequence) (r .operations)) where
+  -- what a test picks and what precedes that is exactly what is covered
+  pub covers-exact : (pick : Acknowledged → Bool) (test : Record → Bool) → Alike pick test (r .operations) → (q : Record)
+      → List·Memᴰ q (coveredIn pick r) ↔ ((a : Acknowledged) × (a .recorded ≡ q) × Covers r pick a)
+  covers-exact pick test same q = (
+    λ m. let x = exact .0 m in let w = waits-in r q (x .0) in (w .who, w .recorded, record { acknowledged = w .among; waits = w .waiting; why = covers w (x .1) }),
+    λ c. exact .1 (
+      subst (λ (z : Record). List·Memᴰ z (waitingIn r)) (c .1) (chosen-there isWaiting (r .operations) (c .0) (c .2 .acknowledged) (c .2 .waits)),
+      subst (Reason test (waitingIn r)) (c .1) (reason (c .0) (c .2)),
+    ),
+  )
+    where
+      exact : List·Memᴰ q (coveredIn pick r) ↔ (List·Memᴰ q (waitingIn r) × Reason test (waitingIn r) q)
+      exact =
+          subst (λ (l : List Record). List·Memᴰ q l ↔ (List·Memᴰ q (waitingIn r) × Reason test (waitingIn r) q)) (sym (covered-closure pick test (r .operations) same))
+          (closure-exact test (waitingIn r) (chosen-rising isWaiting (r .operations) rise) q)
 
-    Other : Acknowledged → Type 0
-    Other a = (b : Acknowledged) × Is b r × (isWaiting b ≡ true) × (member o (operands (b .recorded .operation)) ≡ true) × Precedes r a b
+      Other : Acknowledged → Type 0
+      Other a = (b : Acknowledged) × Is b r × (isWaiting b ≡ true) × (pick b ≡ true) × Precedes r a b
 
-    covers : (w : Waits (r .operations) q) → Reason (hasOperand o) (waitingIn r) q → (member o (operands (w .who .recorded .operation)) ≡ true) ⊎ Other (w .who)
-    covers w (inl h) = inl (ap (hasOperand o) (w .recorded) ∙ h)
-    covers w (inr b) =
-        let v = waits-in r (b .0) (b .1) in
-        inr (v .who, v .among, v .waiting, ap (hasOperand o) (v .recorded) ∙ b .2, precedes-waiting r (b .3) (w .who) (v .who) (w .waiting) (w .recorded) (v .recorded))
+      covers : (w : Waits (r .operations) q) → Reason test (waitingIn r) q → (pick (w .who) ≡ true) ⊎ Other (w .who)
+      covers w (inl h) = inl (same (w .who) (w .among) (w .waiting) ∙ ap test (w .recorded) ∙ h)
+      covers w (inr b) =
+          let v = waits-in r (b .0) (b .1) in
+          inr (v .who, v .among, v .waiting, same (v .who) (v .among) (v .waiting) ∙ ap test (v .recorded) ∙ b .2, precedes-waiting r (b .3) (w .who) (v .who) (w .waiting) (w .recorded) (v .recorded))
 
-    reason : (a : Acknowledged) → Covers r o a → Reason (hasOperand o) (waitingIn r) (a .recorded)
-    reason a c =
-        ⊎-elim (λ (h : member o (operands (a .recorded .operation)) ≡ true). inl h)
-        (λ (b : Other a). inr (b .0 .recorded, chosen-there isWaiting (r .operations) (b .0) (b .1) (b .2), b .3, waiting-precedes r t (b .4) (c .acknowledged) (b .1) (c .waits) (b .2)))
-        (c .why)
+      reason : (a : Acknowledged) → Covers r pick a → Reason test (waitingIn r) (a .recorded)
+      reason a c =
+          ⊎-elim (λ (h : pick a ≡ true). inl (sym (same a (c .acknowledged) (c .waits)) ∙ h))
+          (λ (b : Other a).
+          inr (b .0 .recorded, chosen-there isWaiting (r .operations) (b .0) (b .1) (b .2), sym (same (b .0) (b .1) (b .2)) ∙ b .3, waiting-precedes r t (b .4) (c .acknowledged) (b .1) (c .waits) (b .2)))
+          (c .why)
+
+  -- what fsync of an object needs is exactly what it covers
+  pub needs-exact : (o : ℕ) (q : Record) → List·Memᴰ q (neededFor o r) ↔ ((a : Acknowledged) × (a .recorded ≡ q) × Covers r (hasObject o) a)
+  needs-exact o q = covers-exact (hasObject o) (hasOperand o) (λ a m w. refl) q
 
 -- the waiting members of a set that leaves out no waiting predecessor of a waiting member may be sent one after another
 pub members-ready : (r : Register) → Rising (λ a. a .recorded .sequence) (r .operations) → (set : ℕ → Bool)

@@ -10,7 +10,7 @@ use borrow.Author.Tests.{eqb-true, eqb-false, ne-eqb}
 use Rattle.returned.specs.Returned
 use Rattle.record.specs.Operation.{Operation, Record, operands}
 use Rattle.log.specs.Order.{needed}
-use Rattle.log.specs.Laws.Order.{Rising}
+use Rattle.log.specs.Laws.Order.{Rising, hasOperand}
 use Rattle.session.specs.Class
 use Rattle.session.specs.Call.{Geometry, Call, question, change, link, recovery, push, fsync, cut, renew, take as takeLoss, Answer}
 use Rattle.session.specs.Model.{Model}
@@ -20,14 +20,15 @@ use Rattle.session.specs.Laws.Call.{push-accepted}
 use Rattle.session.specs.Laws.Answer.{link-answered}
 use Rattle.register.specs.Register.{Register, Acknowledged, isWaiting, recordedOf, viewOf}
 use Rattle.register.specs.History.{Is, Marked}
-use Rattle.register.specs.Feed.{neededFor, operationsIn, operandsIn, enter, sendAll, loseAll, accepted, refused, feed}
+use Rattle.register.specs.Feed.{coveredIn, hasObject, neededFor, operationsIn, operandsIn, enter, sendAll, loseAll, accepted, refused, feed}
 use Rattle.register.specs.Fates.{Fates, Nobody, Adds, Enters}
 use Rattle.register.specs.Claim.{Covers, First, Registered}
 use Rattle.register.specs.Laws.Invariant.{Good}
 use Rattle.register.specs.Laws.Operation.{numbers-rise}
 use Rattle.register.specs.Laws.Send.{rising-unique}
 use Rattle.register.specs.Laws.Kept.{waiting-same}
-use Rattle.register.specs.Laws.Precedes.{waits-in, needs-exact}
+use Rattle.register.specs.Laws.Covered.{Alike}
+use Rattle.register.specs.Laws.Precedes.{waits-in, covers-exact}
 use Rattle.register.specs.Laws.Known.{Known}
 use Rattle.register.specs.Laws.Fed.{needed-same}
 use Rattle.register.specs.Laws.Fates.{enters-none, enters-call, enters-renewal, adds-all, enters-all, sent-history, sent-operations, push-fates, cut-fates, sent-fates, broken-fates}
@@ -65,16 +66,17 @@ module _ (g : Geometry) (r : Register) (x : Model) (good : Good g r x) (known : 
       let w = waits-in r (f .0) (subst (λ (l : List Record). List·Memᴰ (f .0) l) (sym (waiting-same g r x (good .kept))) (at .0)) in
       (w .who, w .among, ap (λ (z : Record). z .sequence) (w .recorded) ∙ at .1, w .waiting)
 
-  -- an accepted fsync sends what it covers
-  sync-fates : (o : ℕ) (s : Register) → s .operations ≡ map (sendingAll (neededFor o r)) (r .operations) → Fates r s (Covers r o) Nobody
-  sync-fates o s e =
-      let exact = needs-exact r (good .timed) ordered o in
-      fates-by r s (λ a. List·Memᴰ (a .recorded) (neededFor o r)) (Covers r o) Nobody
+  -- the sends of what a test picks, with their predecessors, send what is covered
+  covered-fates : (pick : Acknowledged → Bool) (test : Record → Bool) → Alike pick test (r .operations)
+      → (s : Register) → s .operations ≡ map (sendingAll (coveredIn pick r)) (r .operations) → Fates r s (Covers r pick) Nobody
+  covered-fates pick test same s e =
+      let exact = covers-exact r (good .timed) ordered pick test same in
+      fates-by r s (λ a. List·Memᴰ (a .recorded) (coveredIn pick r)) (Covers r pick) Nobody
       (λ a m h.
       let c = exact (a .recorded) .0 h in
-      subst (Covers r o) (rising-unique recordedOf (r .operations) ordered (c .0) a (c .2 .acknowledged) m (ap (λ (q : Record). q .sequence) (c .1))) (c .2))
+      subst (Covers r pick) (rising-unique recordedOf (r .operations) ordered (c .0) a (c .2 .acknowledged) m (ap (λ (q : Record). q .sequence) (c .1))) (c .2))
       (λ a m c. exact (a .recorded) .1 (a, refl, c))
-      (sent-fates r ordered (neededFor o r) (λ q h. let c = exact q .0 h in (c .0, c .2 .acknowledged, c .1)) s e)
+      (sent-fates r ordered (coveredIn pick r) (λ q h. let c = exact q .0 h in (c .0, c .2 .acknowledged, c .1)) s e)
 
   -- an fsync that loses the link
   link-fates : (p o k : ℕ) → answerOf g (fsync p o k) x .returned ≡ Returned.linkLost → (s : Register) → s ≡ loseAll (sendAll (take k (neededFor o r)) (enter p (o ∷ []) r))
@@ -93,7 +95,7 @@ module _ (g : Geometry) (r : Register) (x : Model) (good : Good g r x) (known : 
   -- nothing changes with any other refusal
   refused-same : (c : Call) (a : Answer) → (a .returned ≡ Returned.linkLost → ⊥) → (a .returned ≡ Returned.damaged → ⊥) → refused c a r ≡ r
   refused-same (question p q) a l d = refl
-  refused-same (change p c) a l d = refl
+  refused-same (change i c) a l d = refl
   refused-same (link (Class.push q)) a l d = refl
   refused-same (link (Class.fsync p o k)) a l d =
       λ i. cond (ne-eqb (a .returned) Returned.linkLost l i) (loseAll (sendAll (take k (neededFor o r)) (enter p (o ∷ []) r)))
@@ -104,9 +106,9 @@ module _ (g : Geometry) (r : Register) (x : Model) (good : Good g r x) (known : 
   pub registered : (c : Call) → (answerOf g c x .returned ≡ Returned.damaged → ⊥) → Registered r (feed c (answerOf g c x) r) c (answerOf g c x)
   registered c sound =
       record {
-        changed = λ p d is e.
+        changed = λ i d is e.
             let os = operationsIn (viewOf r) d in
-            on (λ s. Adds r s p os × Enters r s (map (λ (o : Operation). (p, operands o)) os) []) (change p d) is e (adds-all p os r, enters-all p os r);
+            on (λ s. Adds r s (i .program) os × Enters r s (map (λ (o : Operation). (i .program, operands o)) os) []) (change i d) is e (adds-all (i .program) os r, enters-all (i .program) os r);
         pushed = λ q is e.
             let one = push-waits q (ap (λ (d : Call). answerOf g d x .returned) (sym is) ∙ e) in
             let f = on (λ s. Fates r s (λ b. b .recorded .sequence ≡ q) Nobody × Enters r s [] []) (push q) is e (push-fates q r, enters-none r _ refl refl) in
@@ -115,7 +117,7 @@ module _ (g : Geometry) (r : Register) (x : Model) (good : Good g r x) (known : 
             let a = enter p (o ∷ []) r in
             let l = neededFor o r in
             let h = sent-history l a in
-            on (λ s. Fates r s (Covers r o) Nobody × Enters r s ((p, o ∷ []) ∷ []) []) (fsync p o k) is e (sync-fates o (sendAll l a) (sent-operations l a), enters-call p (o ∷ []) r (sendAll l a) (h .0) (h .1));
+            on (λ s. Fates r s (Covers r (hasObject o)) Nobody × Enters r s ((p, o ∷ []) ∷ []) []) (fsync p o k) is e (covered-fates (hasObject o) (hasOperand o) (λ b m w. refl) (sendAll l a) (sent-operations l a), enters-call p (o ∷ []) r (sendAll l a) (h .0) (h .1));
         linkLost = λ p o k is e.
             let told : answerOf g (fsync p o k) x .returned ≡ Returned.linkLost = ap (λ (d : Call). answerOf g d x .returned) (sym is) ∙ e in
             link-fates p o k told _ (feed-refused c (answerOf g c x) r (λ z. let y : _≡_ {A = ℕ} 0 17 = sym z ∙ e in omega arith) ∙ broken p o k is e);

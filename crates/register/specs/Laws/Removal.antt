@@ -10,7 +10,7 @@ use Rattle.volume_entry.specs.Entry.{Entry, isFile, isDirectory}
 use Rattle.volume_tree.specs.Volume.{Volume, search}
 use Rattle.volume_apply.specs.Laws.Local.{member-first}
 use Rattle.session.specs.Told.{Told}
-use Rattle.session.specs.Call.{Geometry, Buffers, Call, removeFile, removeDirectory, Answer}
+use Rattle.session.specs.Call.{Geometry, Buffers, Issuer, Call, removeFile, removeDirectory, Answer}
 use Rattle.session.specs.Model.{Model, mountedModel, toldOf}
 use Rattle.session.specs.Issue.{onFound, removes}
 use Rattle.session.specs.Effect.{Effect, issuing, acceptedEffects}
@@ -38,17 +38,17 @@ removed-operand o d n = member-first o (d ∷ [])
 pub removals : (g : Geometry) (s : Buffers) (v : Volume) → Mounted g s v → (cs : List Call) → Removals g v (play g s v cs)
 removals g s v mounted cs =
     record {
-      files = λ m h w. took isFile removeFile (λ x k p d n e. file-removed g x k p d n e) (λ p d n t. refl) m h w;
-      directories = λ m h w. took isDirectory removeDirectory (λ x k p d n e. directory-removed g x k p d n e) (λ p d n t. refl) m h w;
+      files = λ m h w. took isFile removeFile (λ x k i d n e. file-removed g x k i d n e) (λ i d n t. refl) m h w;
+      directories = λ m h w. took isDirectory removeDirectory (λ x k i d n e. directory-removed g x k i d n e) (λ i d n t. refl) m h w;
     }
   where
     begin : State
     begin = record { buffers = mount g s .leaves; register = begun v }
 
-    took : (kind : Entry → Bool) (call : ℕ → ℕ → List ℕ → Call)
-        → ((x : Model) → Sound g x → (p d : ℕ) (n : List ℕ) → answerOf g (call p d n) x .returned ≡ 0 → Removable x kind d n)
-        → ((p d : ℕ) (n : List ℕ) (t : Told) → acceptedEffects (call p d n) t ≡ issuing p (removes (t .view) d n))
-        → (m : Moment) → List·Memᴰ m (play g s v cs .moments) → (w : Removes call m) → Removed g v (play g s v cs) kind m (w .program) (w .parent) (w .name)
+    took : (kind : Entry → Bool) (call : Issuer → ℕ → List ℕ → Call)
+        → ((x : Model) → Sound g x → (i : Issuer) (d : ℕ) (n : List ℕ) → answerOf g (call i d n) x .returned ≡ 0 → Removable x kind d n)
+        → ((i : Issuer) (d : ℕ) (n : List ℕ) (t : Told) → acceptedEffects (call i d n) t ≡ issuing (i .program) (removes (t .view) d n))
+        → (m : Moment) → List·Memᴰ m (play g s v cs .moments) → (w : Removes call m) → Removed g v (play g s v cs) kind m (w .by .program) (w .parent) (w .name)
     took kind call takes does m h w =
         let start = mounted-led g s v mounted in
         let met = run-met g v cs begin (mountedModel v) start m h in
@@ -57,16 +57,16 @@ removals g s v mounted cs =
         let r = m .before .register in
         let after = next-led g v (m .before) x (met .led) (m .call) in
         let accepted : answerOf g (m .call) x .returned ≡ 0 = ap (λ (y : Answer). y .returned) (sym (met .answer)) ∙ w .accepted in
-        let t = takes x (met .led .good .kept .sound) (w .program) (w .parent) (w .name) (ap (λ (c : Call). answerOf g c x .returned) (sym (w .made)) ∙ accepted) in
+        let t = takes x (met .led .good .kept .sound) (w .by) (w .parent) (w .name) (ap (λ (c : Call). answerOf g c x .returned) (sym (w .made)) ∙ accepted) in
         let o : Operation = Operation.remove (t .object) (w .parent) (w .name) in
-        let effects : effectsIn g (m .call) x ≡ issuing (w .program) (o ∷ []) =
+        let effects : effectsIn g (m .call) x ≡ issuing (w .by .program) (o ∷ []) =
         accepted-effects g (m .call) x accepted ∙ ap (λ (c : Call). acceptedEffects c (toldOf x)) (w .made)
-        ∙ does (w .program) (w .parent) (w .name) (toldOf x)
-        ∙ ap (λ (y : Option ℕ). issuing (w .program) (onFound y (λ i. Operation.remove i (w .parent) (w .name)))) (t .found) in
+        ∙ does (w .by) (w .parent) (w .name) (toldOf x)
+        ∙ ap (λ (y : Option ℕ). issuing (w .by .program) (onFound y (λ i. Operation.remove i (w .parent) (w .name)))) (t .found) in
         let seen : viewOf r ≡ x .view = view-replayed g r x (met .led .good .kept) in
-        let a = issuedIn (w .program) o r in
+        let a = issuedIn (w .by .program) o r in
         let added : next g (m .call) (m .before) .register .operations ≡ r .operations ++ (a ∷ []) =
-        ap (λ (y : Register). y .operations) (led-fed g v (m .before) x (met .led) (m .call) ∙ ap (λ (es : List Effect). happenAll es r) effects) ∙ one-issued (w .program) o r in
+        ap (λ (y : Register). y .operations) (led-fed g v (m .before) x (met .led) (m .call) ∙ ap (λ (es : List Effect). happenAll es r) effects) ∙ one-issued (w .by .program) o r in
         record {
           object = t .object;
           found = ap (λ (y : Volume). search y (w .parent) (w .name)) seen ∙ t .found;

@@ -23,7 +23,7 @@ use Rattle.volume_apply.specs.Spelling.{Respelled}
 use Rattle.volume_apply.specs.Laws.Spelling.{respelled}
 use Rattle.log.specs.Slot.{Log}
 use Rattle.session.specs.Told.{Told}
-use Rattle.session.specs.Call.{Geometry, Buffers, Call, rename, Answer, answer, inRange, lengthsFit}
+use Rattle.session.specs.Call.{Geometry, Buffers, Issuer, Call, rename, Answer, answer, inRange, lengthsFit}
 use Rattle.session.specs.Model.{Model, mountedModel, toldOf}
 use Rattle.session.specs.Issue.{displaced, onFound, issues}
 use Rattle.session.specs.Effect.{Effect, issuing, acceptedEffects, perform, performAll}
@@ -76,17 +76,17 @@ alike-refused g s f t c =
     unjoined (some v) l = refl
 
 -- what an accepted rename in one parent to another spelling issues
-pub record Issued (t : Told) (p d : ℕ) (n k : List ℕ) : Type 0 where
+pub record Issued (t : Told) (i : Issuer) (d : ℕ) (n k : List ℕ) : Type 0 where
   pub object : ℕ
   pub found : search (t .view) d n ≡ some object
-  pub operation : issues t (rename p d n d k) ≡ Operation.rename object d d none n k ∷ []
+  pub operation : issues t (rename i d n d k) ≡ Operation.rename object d d none n k ∷ []
   pub fit : applies (t .view) (Operation.rename object d d none n k) ≡ true
 
-spelling-issued : (g : Geometry) (x : Model) → Sound g x → (p d : ℕ) (n k : List ℕ) → answerOf g (rename p d n d k) x .returned ≡ 0 → sameName n k ≡ true → Issued (toldOf x) p d n k
+spelling-issued : (g : Geometry) (x : Model) → Sound g x → (i : Issuer) (d : ℕ) (n k : List ℕ) → answerOf g (rename i d n d k) x .returned ≡ 0 → sameName n k ≡ true → Issued (toldOf x) i d n k
 unfolding answerOf
-spelling-issued g x s p d n k a e =
+spelling-issued g x s i d n k a e =
     let v = x .view in
-    let f = rename-accepted g x s p d n d k a in
+    let f = rename-accepted g x s i d n d k a in
     let o = f .0 in
     let none-displaced : displaced o (search v d k) ≡ none =
     ap (displaced o) (sym (search-spelling v d n k e) ∙ f .1) ∙ ap (λ (t : Bool). cond t none (some o)) (eq-eqb o o refl) in
@@ -148,18 +148,18 @@ spellings g s v mounted cs =
         let r = m .before .register in
         let after = next-led g v (m .before) x (met .led) (m .call) in
         let accepted : answerOf g (m .call) x .returned ≡ 0 = ap (λ (y : Answer). y .returned) (sym (met .answer)) ∙ w .accepted in
-        let i = spelling-issued g x (met .led .good .kept .sound) (w .program) (w .parent) (w .name) (w .secondName) (ap (λ (c : Call). answerOf g c x .returned) (sym (w .call)) ∙ accepted) (w .same) in
+        let i = spelling-issued g x (met .led .good .kept .sound) (w .by) (w .parent) (w .name) (w .secondName) (ap (λ (c : Call). answerOf g c x .returned) (sym (w .call)) ∙ accepted) (w .same) in
         let o : Operation = Operation.rename (i .object) (w .parent) (w .parent) none (w .name) (w .secondName) in
-        let effects : effectsIn g (m .call) x ≡ issuing (w .program) (o ∷ []) =
-        accepted-effects g (m .call) x accepted ∙ ap (λ (c : Call). acceptedEffects c (toldOf x)) (w .call) ∙ ap (issuing (w .program)) (i .operation) in
+        let effects : effectsIn g (m .call) x ≡ issuing (w .by .program) (o ∷ []) =
+        accepted-effects g (m .call) x accepted ∙ ap (λ (c : Call). acceptedEffects c (toldOf x)) (w .call) ∙ ap (issuing (w .by .program)) (i .operation) in
         let seen : viewOf r ≡ x .view = view-replayed g r x (met .led .good .kept) in
         let left : viewOf (next g (m .call) (m .before) .register) ≡ apply (x .view) o =
-        view-replayed g _ _ (after .good .kept) ∙ ap (λ (es : List Effect). performAll es x .view) effects ∙ one-performed (w .program) o x in
+        view-replayed g _ _ (after .good .kept) ∙ ap (λ (es : List Effect). performAll es x .view) effects ∙ one-performed (w .by .program) o x in
         record {
           object = i .object;
           found = ap (λ (y : Volume). search y (w .parent) (w .name)) seen ∙ i .found;
-          renaming = issuedIn (w .program) o r;
-          added = ap (λ (y : Register). y .operations) (led-fed g v (m .before) x (met .led) (m .call) ∙ ap (λ (es : List Effect). happenAll es r) effects) ∙ one-issued (w .program) o r;
+          renaming = issuedIn (w .by .program) o r;
+          added = ap (λ (y : Register). y .operations) (led-fed g v (m .before) x (met .led) (m .call) ∙ ap (λ (es : List Effect). happenAll es r) effects) ∙ one-issued (w .by .program) o r;
           waits = refl;
           logged = refl;
           view =

@@ -131,7 +131,7 @@ module _ (g : Geometry) (x : Model) (p : ℕ) where
 pub wrote-taken : (g : Geometry) (c : Call) (x : Model) (p : ℕ) → wrote p c (answerOf g c x) ≡ map encode (fetchedIn p x (effectsIn g c x))
 unfolding any answerOf effectsOf
 wrote-taken g (question q s) x p = quiet g x p (question q s) refl refl
-wrote-taken g (change q c) x p = quiet g x p (change q c) (issuing-none q (operationsOf (toldOf x) c)) refl
+wrote-taken g (change i c) x p = quiet g x p (change i c) (issuing-none (i .program) (operationsOf (toldOf x) c)) refl
 wrote-taken g (link (Class.push q)) x p = quiet g x p (push q) refl refl
 wrote-taken g (link (Class.fsync q o k)) x p =
     let need = needed o (waitingOf (x .log .slots)) in

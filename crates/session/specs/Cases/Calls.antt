@@ -24,7 +24,7 @@ use Rattle.log.specs.Order.{shares, directlyPrecedes, any, closure, needed, pre
 use Rattle.log.specs.Cases.Order.{orderIn, order}
 use Rattle.log.specs.Depend.{reach, noted}
 use Rattle.log.specs.Change.{waitingOf, issue, removed, dependentsOf, discard, earliest, waitingAt}
-use Rattle.session.specs.Call.{Geometry, Call, lookup, list, stat, read, createFile, makeDirectory, removeFile, removeDirectory, rename, write, setLength, push, fsync, cut, take, renew, geometry}
+use Rattle.session.specs.Call.{Geometry, Issuer, issuer, Call, lookup, list, stat, read, createFile, makeDirectory, removeFile, removeDirectory, rename, write, setLength, push, fsync, cut, take, renew, geometry}
 use Rattle.session.specs.Refusal.{lowestNumber}
 use Rattle.session.specs.Model.{Model, withLog}
 use Rattle.volume_questions.specs.Listing.{listing}
@@ -106,30 +106,34 @@ C n q t = record { number = n; asked = q; told = t }
 abbrev pub small : Geometry
 small = geometry 4 1 6
 
+-- a program that makes a change
+abbrev pub by : ℕ → Issuer
+by p = issuer p
+
 -- a name of one byte
 abbrev pub named : ℕ → List ℕ
 named b = b ∷ []
 
 -- a file 1 of some bytes, sent
 abbrev pub fileOf : ℕ → List Call
-fileOf n = createFile 0 0 (named 102) 1 ∷ setLength 0 1 n ∷ push 1 ∷ push 2 ∷ []
+fileOf n = createFile (by 0) 0 (named 102) 1 ∷ setLength (by 0) 1 n ∷ push 1 ∷ push 2 ∷ []
 
 -- a write of so many bytes to file 1 from an offset on
 abbrev pub writeAt : ℕ → ℕ → Call
-writeAt f n = write 0 1 f (replicate n 7)
+writeAt f n = write (by 0) 1 f (replicate n 7)
 
 -- the directories a, b, c, d and e are 1 to 5, and the files 6 to 9 lie in a, b, c and d; all of them sent
 abbrev pub figure3 : List Call
 figure3 =
-    makeDirectory 0 0 (named 97) 1
-    ∷ makeDirectory 0 0 (named 98) 2
-    ∷ makeDirectory 0 0 (named 99) 3
-    ∷ makeDirectory 0 0 (named 100) 4
-    ∷ makeDirectory 0 0 (named 101) 5
-    ∷ createFile 0 1 (named 102) 6
-    ∷ createFile 0 2 (named 102) 7
-    ∷ createFile 0 3 (named 102) 8
-    ∷ createFile 0 4 (named 102) 9
+    makeDirectory (by 0) 0 (named 97) 1
+    ∷ makeDirectory (by 0) 0 (named 98) 2
+    ∷ makeDirectory (by 0) 0 (named 99) 3
+    ∷ makeDirectory (by 0) 0 (named 100) 4
+    ∷ makeDirectory (by 0) 0 (named 101) 5
+    ∷ createFile (by 0) 1 (named 102) 6
+    ∷ createFile (by 0) 2 (named 102) 7
+    ∷ createFile (by 0) 3 (named 102) 8
+    ∷ createFile (by 0) 4 (named 102) 9
     ∷ fsync 0 0 5
     ∷ push 6
     ∷ push 7
@@ -139,22 +143,22 @@ figure3 =
 
 abbrev pub fourRenames : List Call
 fourRenames =
-    rename 0 1 (named 102) 4 (named 1)
-    ∷ rename 0 2 (named 102) 5 (named 2)
-    ∷ rename 0 3 (named 102) 4 (named 3)
-    ∷ rename 0 4 (named 102) 5 (named 4)
+    rename (by 0) 1 (named 102) 4 (named 1)
+    ∷ rename (by 0) 2 (named 102) 5 (named 2)
+    ∷ rename (by 0) 3 (named 102) 4 (named 3)
+    ∷ rename (by 0) 4 (named 102) 5 (named 4)
     ∷ []
 
 -- three operations of file 1 that wait
 abbrev pub threeWaiting : List Call
-threeWaiting = fileOf 8 ++ (writeAt 0 4 ∷ writeAt 4 4 ∷ setLength 0 1 8 ∷ [])
+threeWaiting = fileOf 8 ++ (writeAt 0 4 ∷ writeAt 4 4 ∷ setLength (by 0) 1 8 ∷ [])
 
 abbrev pub cases : List Row
 cases =
     -- "C1 "/" is 0."
     C 1 (answersTo small [] (lookup 0 (47 ∷ []) ∷ [])) (numbers ((0 ∷ 0 ∷ []) ∷ []))
     -- "C2 60-byte name passes, 61 gives 6."
-    ∷ C 2 (answersTo small [] (createFile 0 0 (replicate 60 97) 1 ∷ createFile 0 0 (replicate 61 97) 2 ∷ []))
+    ∷ C 2 (answersTo small [] (createFile (by 0) 0 (replicate 60 97) 1 ∷ createFile (by 0) 0 (replicate 61 97) 2 ∷ []))
     (numbers ((0 ∷ 1 ∷ []) ∷ (6 ∷ 0 ∷ []) ∷ []))
     -- "C3 overwrites of bytes 0..3 and 4..7: no order."
     ∷ C 3 (orderAfter small (fileOf 8 ++ (writeAt 0 4 ∷ writeAt 4 4 ∷ []))) (precede ((3 ∷ []) ∷ (4 ∷ []) ∷ []))
@@ -174,11 +178,11 @@ cases =
     ∷ C 8 (answersTo small (fileOf 1024) (writeAt 1020 4 ∷ writeAt 1020 5 ∷ [])) (numbers ((0 ∷ 3 ∷ []) ∷ (12 ∷ 0 ∷ []) ∷ []))
     -- "C9 m = 1: a second change gives 13, and passes after a push."
     ∷ C 9
-    (answersTo (geometry 4 1 1) (createFile 0 0 (named 97) 1 ∷ [])
-    (createFile 0 0 (named 98) 2 ∷ push 1 ∷ createFile 0 0 (named 98) 2 ∷ []))
+    (answersTo (geometry 4 1 1) (createFile (by 0) 0 (named 97) 1 ∷ [])
+    (createFile (by 0) 0 (named 98) 2 ∷ push 1 ∷ createFile (by 0) 0 (named 98) 2 ∷ []))
     (numbers ((13 ∷ 0 ∷ []) ∷ (0 ∷ []) ∷ (0 ∷ 2 ∷ []) ∷ []))
     -- "C10 program 31 passes, 32 gives 3."
-    ∷ C 10 (answersTo small [] (createFile 31 0 (named 97) 1 ∷ createFile 32 0 (named 98) 2 ∷ []))
+    ∷ C 10 (answersTo small [] (createFile (by 31) 0 (named 97) 1 ∷ createFile (by 32) 0 (named 98) 2 ∷ []))
     (numbers ((0 ∷ 1 ∷ []) ∷ (3 ∷ 0 ∷ []) ∷ []))
     -- "C11 set length to the present length follows earlier overwrites."
     ∷ C 11 (orderAfter small threeWaiting) (precede ((3 ∷ []) ∷ (4 ∷ []) ∷ (5 ∷ 3 ∷ 4 ∷ []) ∷ []))
@@ -189,7 +193,7 @@ cases =
 
 -- a directory 1 and a file 2 in it, of program 1, waiting
 abbrev pub filled : List Call
-filled = makeDirectory 1 0 (named 97) 1 ∷ createFile 1 1 (named 98) 2 ∷ []
+filled = makeDirectory (by 1) 0 (named 97) 1 ∷ createFile (by 1) 1 (named 98) 2 ∷ []
 
 -- a buffer that a take accepts
 abbrev pub buffer : List ℕ
@@ -212,7 +216,7 @@ examples =
     -- "Fsync counts as such a call even if the link fails."
     ∷ C 5 (answersTo small filled (fsync 2 2 0 ∷ stat 2 0 ∷ [])) (numbers ((17 ∷ 0 ∷ []) ∷ (4 ∷ 0 ∷ 0 ∷ 0 ∷ []) ∷ []))
     -- "The lowest number wins": a bad program, a filled directory in a full log, an absent name
-    ∷ C 6 (answersTo (geometry 4 1 2) filled (removeDirectory 32 9 [] ∷ removeDirectory 0 0 (named 97) ∷ removeFile 0 0 (named 99) ∷ removeFile 0 1 (named 98) ∷ []))
+    ∷ C 6 (answersTo (geometry 4 1 2) filled (removeDirectory (by 32) 9 [] ∷ removeDirectory (by 0) 0 (named 97) ∷ removeFile (by 0) 0 (named 99) ∷ removeFile (by 0) 1 (named 98) ∷ []))
     (numbers ((3 ∷ 0 ∷ []) ∷ (11 ∷ 0 ∷ []) ∷ (8 ∷ 0 ∷ []) ∷ (13 ∷ 0 ∷ []) ∷ []))
     ∷ []
 
@@ -238,7 +242,7 @@ across =
     -- "and never the reverse": the append follows the overwrite
     ∷ C 1 (orderAfter small (fileOf 5 ++ (writeAt 0 10 ∷ []))) (precede ((3 ∷ []) ∷ (4 ∷ 3 ∷ []) ∷ []))
     -- "refusal 13 comes if fewer than two slots are free": with one slot free no write across the end, but an append; with two both
-    ∷ C 2 (answersTo (geometry 4 1 2) (fileOf 5 ++ (createFile 0 0 (named 103) 2 ∷ [])) (writeAt 0 10 ∷ writeAt 5 5 ∷ writeAt 0 20 ∷ []))
+    ∷ C 2 (answersTo (geometry 4 1 2) (fileOf 5 ++ (createFile (by 0) 0 (named 103) 2 ∷ [])) (writeAt 0 10 ∷ writeAt 5 5 ∷ writeAt 0 20 ∷ []))
     (numbers ((13 ∷ 0 ∷ []) ∷ (0 ∷ 4 ∷ []) ∷ (13 ∷ 0 ∷ []) ∷ []))
     ∷ C 2 (answersTo (geometry 4 1 2) (fileOf 5) (writeAt 0 10 ∷ writeAt 0 1 ∷ [])) (numbers ((0 ∷ 3 ∷ []) ∷ (13 ∷ 0 ∷ []) ∷ []))
     -- "and 14 if fewer than two numbers are left": the last number is for one operation, the last two for both
@@ -265,43 +269,43 @@ listFor p n = list p 0 (replicate n 0)
 
 -- a file 1 that was sent as Task, and its rename to another case, lost
 abbrev pub spellingLost : List Call
-spellingLost = createFile 0 0 Task 1 ∷ push 1 ∷ rename 0 0 task 0 TASK ∷ cut ∷ []
+spellingLost = createFile (by 0) 0 Task 1 ∷ push 1 ∷ rename (by 0) 0 task 0 TASK ∷ cut ∷ []
 
 -- document 02, K2: letter case in names
 abbrev pub spelling : List Row
 spelling =
     -- "Two pupils made Task and task in one folder": the second is refused, and every spelling finds and removes the first
     C 1
-    (answersTo small (createFile 0 0 Task 1 ∷ [])
-    (createFile 1 0 task 2 ∷ makeDirectory 1 0 TASK 2 ∷ lookup 1 (47 ∷ task) ∷ lookup 1 (47 ∷ TASK) ∷ removeFile 1 0 TASK ∷ lookup 1 (47 ∷ Task) ∷ []))
+    (answersTo small (createFile (by 0) 0 Task 1 ∷ [])
+    (createFile (by 1) 0 task 2 ∷ makeDirectory (by 1) 0 TASK 2 ∷ lookup 1 (47 ∷ task) ∷ lookup 1 (47 ∷ TASK) ∷ removeFile (by 1) 0 TASK ∷ lookup 1 (47 ∷ Task) ∷ []))
     (numbers ((10 ∷ 0 ∷ []) ∷ (10 ∷ 0 ∷ []) ∷ (0 ∷ 1 ∷ []) ∷ (0 ∷ 1 ∷ []) ∷ (0 ∷ 2 ∷ []) ∷ (8 ∷ 0 ∷ []) ∷ []))
     -- no other byte has a second spelling: "@" and "`" are two names
     ∷ C 2
-    (answersTo small (createFile 0 0 (named 64) 1 ∷ [])
-    (createFile 0 0 (named 96) 2 ∷ lookup 0 (47 ∷ 64 ∷ []) ∷ lookup 0 (47 ∷ 96 ∷ []) ∷ []))
+    (answersTo small (createFile (by 0) 0 (named 64) 1 ∷ [])
+    (createFile (by 0) 0 (named 96) 2 ∷ lookup 0 (47 ∷ 64 ∷ []) ∷ lookup 0 (47 ∷ 96 ∷ []) ∷ []))
     (numbers ((0 ∷ 2 ∷ []) ∷ (0 ∷ 1 ∷ []) ∷ (0 ∷ 2 ∷ []) ∷ []))
     -- "kept as typed"
-    ∷ C 3 (leftBy small (createFile 0 0 Task 1 ∷ []) (listFor 0 8)) (left (1 ∷ 0 ∷ 1 ∷ 4 ∷ Task))
+    ∷ C 3 (leftBy small (createFile (by 0) 0 Task 1 ∷ []) (listFor 0 8)) (left (1 ∷ 0 ∷ 1 ∷ 4 ∷ Task))
     -- "one that only changes the case of the stored name displaces nothing and changes the stored spelling"
-    ∷ C 4 (leftBy small (createFile 0 0 Task 1 ∷ rename 0 0 task 0 TASK ∷ []) (listFor 0 8)) (left (1 ∷ 0 ∷ 1 ∷ 4 ∷ TASK))
+    ∷ C 4 (leftBy small (createFile (by 0) 0 Task 1 ∷ rename (by 0) 0 task 0 TASK ∷ []) (listFor 0 8)) (left (1 ∷ 0 ∷ 1 ∷ 4 ∷ TASK))
     -- "in the same parent, only the stored spelling itself changes nothing"
-    ∷ C 4 (leftBy small (createFile 0 0 Task 1 ∷ rename 0 0 task 0 Task ∷ []) (listFor 0 8)) (left (1 ∷ 0 ∷ 1 ∷ 4 ∷ Task))
+    ∷ C 4 (leftBy small (createFile (by 0) 0 Task 1 ∷ rename (by 0) 0 task 0 Task ∷ []) (listFor 0 8)) (left (1 ∷ 0 ∷ 1 ∷ 4 ∷ Task))
     -- "records keep both names as typed", and the lost rename displaced nothing; the server keeps the old spelling
     ∷ C 5 (leftBy small spellingLost (take 0 buffer))
     (left (encode (record { sequence = 2; program = 0; operation = Operation.rename 1 0 0 none task TASK }) ++ replicate 1016 0))
     ∷ C 5 (leftBy small spellingLost (listFor 1 8)) (left (1 ∷ 0 ∷ 1 ∷ 4 ∷ Task))
     -- another spelling of another object's name displaces that one: "b" is stored, and B is gone
-    ∷ C 6 (leftBy small (createFile 0 0 (named 97) 1 ∷ createFile 0 0 (named 66) 2 ∷ rename 0 0 (named 65) 0 (named 98) ∷ []) (listFor 0 5))
+    ∷ C 6 (leftBy small (createFile (by 0) 0 (named 97) 1 ∷ createFile (by 0) 0 (named 66) 2 ∷ rename (by 0) 0 (named 65) 0 (named 98) ∷ []) (listFor 0 5))
     (left (1 ∷ 0 ∷ 1 ∷ 1 ∷ 98 ∷ []))
     -- sent in issue order, each applies to the spelling that it meets
     ∷ C 7
-    (answersTo small (createFile 0 0 Task 1 ∷ []) (rename 0 0 TASK 0 task ∷ removeFile 0 0 TASK ∷ push 1 ∷ push 3 ∷ push 2 ∷ push 3 ∷ []))
+    (answersTo small (createFile (by 0) 0 Task 1 ∷ []) (rename (by 0) 0 TASK 0 task ∷ removeFile (by 0) 0 TASK ∷ push 1 ∷ push 3 ∷ push 2 ∷ push 3 ∷ []))
     (numbers ((0 ∷ 2 ∷ []) ∷ (0 ∷ 3 ∷ []) ∷ (0 ∷ []) ∷ (15 ∷ []) ∷ (0 ∷ []) ∷ (0 ∷ []) ∷ []))
     ∷ []
 
 -- the filled directory 1, the file 2 in it, and an empty directory 3
 abbrev pub ofEachKind : List Call
-ofEachKind = filled ++ (makeDirectory 1 0 (named 99) 3 ∷ [])
+ofEachKind = filled ++ (makeDirectory (by 1) 0 (named 99) 3 ∷ [])
 
 -- a loss of operation 2, which removes object 1, as take leaves it
 abbrev pub removalLost : Said
@@ -311,30 +315,30 @@ removalLost = left (encode (record { sequence = 2; program = 0; operation = Oper
 abbrev pub removal : List Row
 removal =
     -- "remove directory [takes] only empty directories": no file, which remove file takes
-    C 1 (answersTo small ofEachKind (removeDirectory 0 1 (named 98) ∷ removeFile 0 1 (named 98) ∷ [])) (numbers ((9 ∷ 0 ∷ []) ∷ (0 ∷ 4 ∷ []) ∷ []))
+    C 1 (answersTo small ofEachKind (removeDirectory (by 0) 1 (named 98) ∷ removeFile (by 0) 1 (named 98) ∷ [])) (numbers ((9 ∷ 0 ∷ []) ∷ (0 ∷ 4 ∷ []) ∷ []))
     -- "Remove file takes only files": no empty directory, which remove directory takes
-    ∷ C 2 (answersTo small ofEachKind (removeFile 0 0 (named 99) ∷ removeDirectory 0 0 (named 99) ∷ [])) (numbers ((9 ∷ 0 ∷ []) ∷ (0 ∷ 4 ∷ []) ∷ []))
+    ∷ C 2 (answersTo small ofEachKind (removeFile (by 0) 0 (named 99) ∷ removeDirectory (by 0) 0 (named 99) ∷ [])) (numbers ((9 ∷ 0 ∷ []) ∷ (0 ∷ 4 ∷ []) ∷ []))
     -- "Refusal 9 covers the wrong choice and comes before 11": of a filled directory, remove file says 9 and remove directory 11
-    ∷ C 3 (answersTo small ofEachKind (removeFile 0 0 (named 97) ∷ removeDirectory 0 0 (named 97) ∷ [])) (numbers ((9 ∷ 0 ∷ []) ∷ (11 ∷ 0 ∷ []) ∷ []))
+    ∷ C 3 (answersTo small ofEachKind (removeFile (by 0) 0 (named 97) ∷ removeDirectory (by 0) 0 (named 97) ∷ [])) (numbers ((9 ∷ 0 ∷ []) ∷ (11 ∷ 0 ∷ []) ∷ []))
     -- and before 13; a refused choice changes nothing and brings no dependence
     ∷ C 4
-    (answersTo (geometry 4 1 3) ofEachKind (removeDirectory 2 1 (named 98) ∷ removeFile 2 0 (named 99) ∷ removeFile 2 1 (named 98) ∷ cut ∷ stat 2 0 ∷ []))
+    (answersTo (geometry 4 1 3) ofEachKind (removeDirectory (by 2) 1 (named 98) ∷ removeFile (by 2) 0 (named 99) ∷ removeFile (by 2) 1 (named 98) ∷ cut ∷ stat 2 0 ∷ []))
     (numbers ((9 ∷ 0 ∷ []) ∷ (9 ∷ 0 ∷ []) ∷ (13 ∷ 0 ∷ []) ∷ (0 ∷ []) ∷ (0 ∷ 2 ∷ 0 ∷ 0 ∷ []) ∷ []))
     -- "Kind 3 stays in the record, so stored losses read as they did": the same loss by either call
-    ∷ C 5 (leftBy small (createFile 0 0 (named 97) 1 ∷ push 1 ∷ removeFile 0 0 (named 97) ∷ cut ∷ []) (take 0 buffer)) removalLost
-    ∷ C 5 (leftBy small (makeDirectory 0 0 (named 97) 1 ∷ push 1 ∷ removeDirectory 0 0 (named 97) ∷ cut ∷ []) (take 0 buffer)) removalLost
+    ∷ C 5 (leftBy small (createFile (by 0) 0 (named 97) 1 ∷ push 1 ∷ removeFile (by 0) 0 (named 97) ∷ cut ∷ []) (take 0 buffer)) removalLost
+    ∷ C 5 (leftBy small (makeDirectory (by 0) 0 (named 97) 1 ∷ push 1 ∷ removeDirectory (by 0) 0 (named 97) ∷ cut ∷ []) (take 0 buffer)) removalLost
     ∷ []
 
 -- a directory 1 and a file 2 of 8 bytes in it, sent
 abbrev pub sentTree : List Call
-sentTree = makeDirectory 0 0 (named 97) 1 ∷ createFile 0 1 (named 98) 2 ∷ setLength 0 2 8 ∷ push 1 ∷ push 2 ∷ push 3 ∷ []
+sentTree = makeDirectory (by 0) 0 (named 97) 1 ∷ createFile (by 0) 1 (named 98) 2 ∷ setLength (by 0) 2 8 ∷ push 1 ∷ push 2 ∷ push 3 ∷ []
 
 -- and an overwrite of program 1 that waits, with the file as its only operand; or a new file 3 in the directory, with these two as operands
 abbrev pub fileWaits : List Call
-fileWaits = sentTree ++ (write 1 2 0 (replicate 4 7) ∷ [])
+fileWaits = sentTree ++ (write (by 1) 2 0 (replicate 4 7) ∷ [])
 
 abbrev pub directoryWaits : List Call
-directoryWaits = sentTree ++ (createFile 1 1 (named 99) 3 ∷ [])
+directoryWaits = sentTree ++ (createFile (by 1) 1 (named 99) 3 ∷ [])
 
 -- of a program that made one call before a cut
 abbrev pub isMarked : List ℕ
@@ -355,7 +359,7 @@ dependence =
     ∷ C 4 (answersTo small directoryWaits (lookup 2 (47 ∷ 97 ∷ 47 ∷ 98 ∷ []) ∷ cut ∷ stat 2 0 ∷ [])) (numbers ((0 ∷ 2 ∷ []) ∷ (0 ∷ []) ∷ isMarked ∷ []))
     ∷ C 4 (answersTo small fileWaits (lookup 2 (47 ∷ 97 ∷ []) ∷ cut ∷ stat 2 0 ∷ [])) (numbers ((0 ∷ 1 ∷ []) ∷ (0 ∷ []) ∷ isNot ∷ []))
     -- a change: the overwrite of other bytes is sent, and its program still depends on the one that it touched
-    ∷ C 5 (answersTo small fileWaits (write 2 2 4 (replicate 4 7) ∷ push 5 ∷ cut ∷ stat 2 0 ∷ [])) (numbers ((0 ∷ 5 ∷ []) ∷ (0 ∷ []) ∷ (0 ∷ []) ∷ isMarked ∷ []))
+    ∷ C 5 (answersTo small fileWaits (write (by 2) 2 4 (replicate 4 7) ∷ push 5 ∷ cut ∷ stat 2 0 ∷ [])) (numbers ((0 ∷ 5 ∷ []) ∷ (0 ∷ []) ∷ (0 ∷ []) ∷ isMarked ∷ []))
     -- an accepted fsync sends all that it depends on
     ∷ C 6 (answersTo small fileWaits (fsync 2 2 1 ∷ cut ∷ stat 2 0 ∷ [])) (numbers ((0 ∷ 1 ∷ []) ∷ (0 ∷ []) ∷ isNot ∷ []))
     ∷ []

@@ -31,7 +31,7 @@ use Rattle.log.specs.Order.{any, before, needed, preceded}
 use Rattle.log.specs.Laws.Order.{direct-decides}
 use Rattle.session.specs.Class.{Question, Change}
 use Rattle.session.specs.Class
-use Rattle.session.specs.Call.{Geometry, Call, question, change, link, recovery, lookup, list, stat, read, createFile, makeDirectory, removeFile, removeDirectory, rename, write, setLength, forder, push, fsync, Answer, answer, resultCount, ownBuffer}
+use Rattle.session.specs.Call.{Geometry, Issuer, Call, question, change, link, recovery, lookup, list, stat, read, createFile, makeDirectory, removeFile, removeDirectory, rename, write, setLength, forder, push, fsync, Answer, answer, resultCount, ownBuffer}
 use Rattle.session.specs.Question.{questionAnswer}
 use Rattle.session.specs.Call
 use Rattle.session.specs.Refusal.{Row, row}
@@ -122,7 +122,7 @@ module _ (g : Geometry) (x : Model) where
       → (answerOf g c x .returned ≡ Returned.damaged → (p o k : ℕ) → c ≡ fsync p o k → ⊥) → Plain c (answerOf g c x)
   unfolding answerOf pushOf takeOf renewOf
   refused-plain (question p q) n l d = plain-unless (question p q) _ _ (plain-question p (x .view) q) n
-  refused-plain (change p c) n l d = plain-changed (change p c) p (changeRows g (x .view) c) n
+  refused-plain (change i c) n l d = plain-changed (change i c) (i .program) (changeRows g (x .view) c) n
   refused-plain (link (Class.push q)) n l d = plain-unless (push q) _ _ (λ z. record { results = refl; own = refl }) n
   refused-plain (link (Class.fsync p o k)) n l d = plain-sync p o k x n l (λ z. d z p o k refl)
   refused-plain (link Class.cut) n l d = absurd (n refl)
@@ -226,21 +226,21 @@ module _ (g : Geometry) (x : Model) where
   no-change c p rows n l e = never-damaged c (badProgram p ∷ isMarked (x .log) p ∷ (rows ++ roomRows g c x)) _ n l (λ z. omega arith) e
 
   -- a change's table has numbers, and none of them is 2
-  change-table : (p : ℕ) (c : Change)
-      → (numbered (changeRows g (x .view) c ++ roomRows g (change p c) x) ≡ true) × (lacks Returned.damaged (changeRows g (x .view) c ++ roomRows g (change p c) x) ≡ true)
-  change-table p (Class.createFile d n o) = (refl, refl)
-  change-table p (Class.makeDirectory d n o) = (refl, refl)
-  change-table p (Class.removeFile d n) = (refl, refl)
-  change-table p (Class.removeDirectory d n) = (refl, refl)
-  change-table p (Class.rename d n b k) = (refl, refl)
-  change-table p (Class.write o f s) = (refl, refl)
-  change-table p (Class.setLength o f) = (refl, refl)
-  change-table p (Class.forder s) = (refl, refl)
+  change-table : (i : Issuer) (c : Change)
+      → (numbered (changeRows g (x .view) c ++ roomRows g (change i c) x) ≡ true) × (lacks Returned.damaged (changeRows g (x .view) c ++ roomRows g (change i c) x) ≡ true)
+  change-table i (Class.createFile d n o) = (refl, refl)
+  change-table i (Class.makeDirectory d n o) = (refl, refl)
+  change-table i (Class.removeFile d n) = (refl, refl)
+  change-table i (Class.removeDirectory d n) = (refl, refl)
+  change-table i (Class.rename d n b k) = (refl, refl)
+  change-table i (Class.write o f s) = (refl, refl)
+  change-table i (Class.setLength o f) = (refl, refl)
+  change-table i (Class.forder s) = (refl, refl)
 
   pub damaged-why : (c : Call) → answerOf g c x .returned ≡ Returned.damaged → Damaged x c
   unfolding answerOf takeOf renewOf
   damaged-why (question p q) e = never-damaged (question p q) (badProgram p ∷ isMarked (x .log) p ∷ []) _ refl refl (question-sound (x .view) q) e
-  damaged-why (change p c) e = let f = change-table p c in no-change (change p c) p (changeRows g (x .view) c) (f .0) (f .1) e
+  damaged-why (change i c) e = let f = change-table i c in no-change (change i c) (i .program) (changeRows g (x .view) c) (f .0) (f .1) e
   damaged-why (link (Class.push q)) e = push-damaged q x e
   damaged-why (link (Class.fsync p o k)) e = fsync-damaged p o k x e
   damaged-why (link Class.cut) e = absurd (omega arith)
@@ -276,38 +276,38 @@ module _ (g : Geometry) (x : Model) (s : Sound g x) where
         results = ap (λ (a : Answer). a .results) by ∙ told c p (removeRows takes (x .view) d n) r;
       }
 
-  pub change-answered : (p : ℕ) (c : Change) → answerOf g (change p c) x .returned ≡ 0 → Changes g (change p c) x
+  pub change-answered : (i : Issuer) (c : Change) → answerOf g (change i c) x .returned ≡ 0 → Changes g (change i c) x
   unfolding answerOf
-  change-answered p (Class.createFile d n o) e =
-      record { program = p; first = Operation.createFile o d n; others = []; issued = refl; effects = refl; results = told (createFile p d n o) p (makeRows (x .view) d n o) e }
-  change-answered p (Class.makeDirectory d n o) e =
-      record { program = p; first = Operation.makeDirectory o d n; others = []; issued = refl; effects = refl; results = told (makeDirectory p d n o) p (makeRows (x .view) d n o) e }
-  change-answered p (Class.removeFile d n) e = remove-answered isFile p d n (removeFile p d n) refl (refl, refl) e
-  change-answered p (Class.removeDirectory d n) e = remove-answered isDirectory p d n (removeDirectory p d n) refl (refl, refl) e
-  change-answered p (Class.rename d n b k) e =
-      let f = rename-accepted g x s p d n b k e in
+  change-answered i (Class.createFile d n o) e =
+      record { program = i .program; first = Operation.createFile o d n; others = []; issued = refl; effects = refl; results = told (createFile i d n o) (i .program) (makeRows (x .view) d n o) e }
+  change-answered i (Class.makeDirectory d n o) e =
+      record { program = i .program; first = Operation.makeDirectory o d n; others = []; issued = refl; effects = refl; results = told (makeDirectory i d n o) (i .program) (makeRows (x .view) d n o) e }
+  change-answered i (Class.removeFile d n) e = remove-answered isFile (i .program) d n (removeFile i d n) refl (refl, refl) e
+  change-answered i (Class.removeDirectory d n) e = remove-answered isDirectory (i .program) d n (removeDirectory i d n) refl (refl, refl) e
+  change-answered i (Class.rename d n b k) e =
+      let f = rename-accepted g x s i d n b k e in
       record {
-        program = p;
+        program = i .program;
         first = Operation.rename (f .0) d b (displaced (f .0) (search (x .view) b k)) n k;
         others = [];
         issued = ap (λ (h : Option ℕ). onFound h (λ o. Operation.rename o d b (displaced o (search (x .view) b k)) n k)) (f .1);
         effects = refl;
-        results = told (rename p d n b k) p (renameRows (x .view) d n b k) e;
+        results = told (rename i d n b k) (i .program) (renameRows (x .view) d n b k) e;
       }
-  change-answered p (Class.write o f t) e =
-      let k = writes-some (length (contentsOf (entryAt (x .view) o))) o f t (write-some g x s p o f t e) in
+  change-answered i (Class.write o f t) e =
+      let k = writes-some (length (contentsOf (entryAt (x .view) o))) o f t (write-some g x s i o f t e) in
       record {
-        program = p;
+        program = i .program;
         first = k .0;
         others = k .1;
         issued = k .2;
         effects = refl;
-        results = told (write p o f t) p (writeRows (g .blocks) (x .view) o f t) e;
+        results = told (write i o f t) (i .program) (writeRows (g .blocks) (x .view) o f t) e;
       }
-  change-answered p (Class.setLength o f) e =
-      record { program = p; first = Operation.setLength o f; others = []; issued = refl; effects = refl; results = told (setLength p o f) p (lengthRows (g .blocks) (x .view) o f) e }
-  change-answered p (Class.forder t) e =
-      record { program = p; first = Operation.forder (objectsOf t); others = []; issued = refl; effects = refl; results = told (forder p t) p (forderRows (x .view) t) e }
+  change-answered i (Class.setLength o f) e =
+      record { program = i .program; first = Operation.setLength o f; others = []; issued = refl; effects = refl; results = told (setLength i o f) (i .program) (lengthRows (g .blocks) (x .view) o f) e }
+  change-answered i (Class.forder t) e =
+      record { program = i .program; first = Operation.forder (objectsOf t); others = []; issued = refl; effects = refl; results = told (forder i t) (i .program) (forderRows (x .view) t) e }
 
 -- an accepted fsync answers how many it needs
 pub sync-answered : (p o k : ℕ) (x : Model) → fsyncOf p o k x .returned ≡ 0 → fsyncOf p o k x .results ≡ length (needed o (waitingOf (x .log .slots))) ∷ []

@@ -202,16 +202,16 @@ module _ (g : Geometry) where
   accepted-possible : (c : Call) (x : Model) → Sound g x → answerOf g c x .returned ≡ 0 → AllPossible g x (acceptedEffects c (toldOf x))
   unfolding answerOf renewOf
   accepted-possible (question p q) x h e = (program-good (question p q) p _ _ refl e, tt)
-  accepted-possible (change p (Class.createFile d n o)) x h e = issued-possible p x _ _ refl (create-accepted g x h p d n o e)
-  accepted-possible (change p (Class.makeDirectory d n o)) x h e = issued-possible p x _ _ refl (make-accepted g x h p d n o e)
-  accepted-possible (change p (Class.removeFile d n)) x h e = remove-possible p d n x (remove-accepted g x h isFile p d n (removeFile p d n) refl e)
-  accepted-possible (change p (Class.removeDirectory d n)) x h e = remove-possible p d n x (remove-accepted g x h isDirectory p d n (removeDirectory p d n) refl e)
-  accepted-possible (change p (Class.rename d n b k)) x h e =
-      let a = rename-accepted g x h p d n b k e in
-      issued-possible p x _ _ (ap (λ (f : Option ℕ). onFound f (λ o. Operation.rename o d b (displaced o (search (x .view) b k)) n k)) (a .1)) (a .2)
-  accepted-possible (change p (Class.write o f s)) x h e = issued-possible p x _ _ refl (write-accepted g x h p o f s e)
-  accepted-possible (change p (Class.setLength o f)) x h e = issued-possible p x _ _ refl (length-accepted g x h p o f e)
-  accepted-possible (change p (Class.forder s)) x h e = issued-possible p x _ _ refl (forder-accepted g x h p s e)
+  accepted-possible (change i (Class.createFile d n o)) x h e = issued-possible (i .program) x _ _ refl (create-accepted g x h i d n o e)
+  accepted-possible (change i (Class.makeDirectory d n o)) x h e = issued-possible (i .program) x _ _ refl (make-accepted g x h i d n o e)
+  accepted-possible (change i (Class.removeFile d n)) x h e = remove-possible (i .program) d n x (remove-accepted g x h isFile (i .program) d n (removeFile i d n) refl e)
+  accepted-possible (change i (Class.removeDirectory d n)) x h e = remove-possible (i .program) d n x (remove-accepted g x h isDirectory (i .program) d n (removeDirectory i d n) refl e)
+  accepted-possible (change i (Class.rename d n b k)) x h e =
+      let a = rename-accepted g x h i d n b k e in
+      issued-possible (i .program) x _ _ (ap (λ (f : Option ℕ). onFound f (λ o. Operation.rename o d b (displaced o (search (x .view) b k)) n k)) (a .1)) (a .2)
+  accepted-possible (change i (Class.write o f s)) x h e = issued-possible (i .program) x _ _ refl (write-accepted g x h i o f s e)
+  accepted-possible (change i (Class.setLength o f)) x h e = issued-possible (i .program) x _ _ refl (length-accepted g x h i o f e)
+  accepted-possible (change i (Class.forder s)) x h e = issued-possible (i .program) x _ _ refl (forder-accepted g x h i s e)
   accepted-possible (link (Class.push q)) x h e = (push-accepted q x e, tt)
   accepted-possible (link (Class.fsync p o k)) x h e = sync-whole p o k x h e
   accepted-possible (link Class.cut) x h e = (tt, tt)
@@ -222,7 +222,7 @@ module _ (g : Geometry) where
   refused-possible : (c : Call) (x : Model) → Sound g x → AllPossible g x (refusedEffects c (answerOf g c x) (toldOf x))
   unfolding answerOf
   refused-possible (question p q) x h = tt
-  refused-possible (change p c) x h = tt
+  refused-possible (change i c) x h = tt
   refused-possible (link (Class.push q)) x h = tt
   refused-possible (link (Class.fsync p o k)) x h = sync-broken p o k x h
   refused-possible (link Class.cut) x h = tt

@@ -21,7 +21,7 @@ use Rattle.volume_tree.specs.Laws.Form.{well-formed-inv, lowest-some}
 use Rattle.volume_apply.specs.Apply.{applies, apply, isAbsent, isAt, hasRoom, yields}
 use Rattle.volume_apply.specs.Laws.Apply.{overwritten-file}
 use Rattle.log.specs.Order.{any}
-use Rattle.session.specs.Call.{Geometry, Call, createFile, makeDirectory, rename, write, setLength, forder, inRange}
+use Rattle.session.specs.Call.{Geometry, Issuer, Call, createFile, makeDirectory, rename, write, setLength, forder, inRange}
 use Rattle.session.specs.Refusal.{Row}
 use Rattle.session.specs.Model.{Model, badProgram, isMarked, isBad, isLong, outside, isFree, toldOf}
 use Rattle.session.specs.Issue.{displaced, onFound, onBytes, writes, removes, issues}
@@ -131,16 +131,16 @@ module _ (g : Geometry) (x : Model) (s : Sound g x) where
         omega arith,
       )
 
-  pub create-accepted : (p d : ℕ) (n : List ℕ) (o : ℕ) → changed g (createFile p d n o) p (makeRows (x .view) d n o) x .returned ≡ 0 → Issuing g x p (Operation.createFile o d n ∷ [])
+  pub create-accepted : (i : Issuer) (d : ℕ) (n : List ℕ) (o : ℕ) → changed g (createFile i d n o) (i .program) (makeRows (x .view) d n o) x .returned ≡ 0 → Issuing g x (i .program) (Operation.createFile o d n ∷ [])
   unfolding applies
-  create-accepted p d n o e =
-      let f = make-fit p d n o (createFile p d n o) refl e in
+  create-accepted i d n o e =
+      let f = make-fit (i .program) d n o (createFile i d n o) refl e in
       record { program = f .0; fit = (f .2, create-recordable (g .objects) (g .blocks) few o d n (f .1), tt); room = f .3; number = f .4 }
 
-  pub make-accepted : (p d : ℕ) (n : List ℕ) (o : ℕ) → changed g (makeDirectory p d n o) p (makeRows (x .view) d n o) x .returned ≡ 0 → Issuing g x p (Operation.makeDirectory o d n ∷ [])
+  pub make-accepted : (i : Issuer) (d : ℕ) (n : List ℕ) (o : ℕ) → changed g (makeDirectory i d n o) (i .program) (makeRows (x .view) d n o) x .returned ≡ 0 → Issuing g x (i .program) (Operation.makeDirectory o d n ∷ [])
   unfolding applies
-  make-accepted p d n o e =
-      let f = make-fit p d n o (makeDirectory p d n o) refl e in
+  make-accepted i d n o e =
+      let f = make-fit (i .program) d n o (makeDirectory i d n o) refl e in
       record { program = f .0; fit = (f .2, make-recordable (g .objects) (g .blocks) few o d n (f .1), tt); room = f .3; number = f .4 }
 
   -- what was found and has no children may be removed
@@ -170,10 +170,10 @@ module _ (g : Geometry) (x : Model) (s : Sound g x) where
       record { low = search-inside v d n o is .0; object = found-below d n o is; parent = below d (r .1 .1 .0); text = text-fine n (r .0) (r .1 .0) } in
       (o, is, record { program = a .0; fit = (removed-fit d n o dir is kids, remove-recordable (g .objects) (g .blocks) few o d n f, tt); room = omega arith; number = omega arith })
 
-  pub length-accepted : (p o f : ℕ) → changed g (setLength p o f) p (lengthRows (g .blocks) (x .view) o f) x .returned ≡ 0 → Issuing g x p (Operation.setLength o f ∷ [])
+  pub length-accepted : (i : Issuer) (o f : ℕ) → changed g (setLength i o f) (i .program) (lengthRows (g .blocks) (x .view) o f) x .returned ≡ 0 → Issuing g x (i .program) (Operation.setLength o f ∷ [])
   unfolding applies
-  length-accepted p o f e =
-      let a = change-passed g (setLength p o f) p (lengthRows (g .blocks) (x .view) o f) x refl e in
+  length-accepted i o f e =
+      let a = change-passed g (setLength i o f) (i .program) (lengthRows (g .blocks) (x .view) o f) x refl e in
       let r = a .1 in
       let isf : isFile (entryAt (x .view) o) ≡ true = not-false _ (r .1 .1 .0) in
       record {
@@ -232,20 +232,20 @@ module _ (g : Geometry) (x : Model) (s : Sound g x) where
           )
 
   -- an accepted write has some bytes
-  pub write-some : (p o f : ℕ) (d : List ℕ) → changed g (write p o f d) p (writeRows (g .blocks) (x .view) o f d) x .returned ≡ 0 → 1 ≤ length d
-  write-some p o f d e =
-      let r = change-passed g (write p o f d) p (writeRows (g .blocks) (x .view) o f d) x refl e .1 in
+  pub write-some : (i : Issuer) (o f : ℕ) (d : List ℕ) → changed g (write i o f d) (i .program) (writeRows (g .blocks) (x .view) o f d) x .returned ≡ 0 → 1 ≤ length d
+  write-some i o f d e =
+      let r = change-passed g (write i o f d) (i .program) (writeRows (g .blocks) (x .view) o f d) x refl e .1 in
       write-range f (length d) (length (contentsOf (entryAt (x .view) o))) (r .1 .1 .1 .0) .0
 
   -- and begins at the length of its file at most
-  pub write-begins : (p o f : ℕ) (d : List ℕ) → changed g (write p o f d) p (writeRows (g .blocks) (x .view) o f d) x .returned ≡ 0 → f ≤ length (contentsOf (entryAt (x .view) o))
-  write-begins p o f d e =
-      let r = change-passed g (write p o f d) p (writeRows (g .blocks) (x .view) o f d) x refl e .1 in
+  pub write-begins : (i : Issuer) (o f : ℕ) (d : List ℕ) → changed g (write i o f d) (i .program) (writeRows (g .blocks) (x .view) o f d) x .returned ≡ 0 → f ≤ length (contentsOf (entryAt (x .view) o))
+  write-begins i o f d e =
+      let r = change-passed g (write i o f d) (i .program) (writeRows (g .blocks) (x .view) o f d) x refl e .1 in
       write-range f (length d) (length (contentsOf (entryAt (x .view) o))) (r .1 .1 .1 .0) .2
 
-  pub write-accepted : (p o f : ℕ) (d : List ℕ) → changed g (write p o f d) p (writeRows (g .blocks) (x .view) o f d) x .returned ≡ 0 → Issuing g x p (writes (x .view) o f d)
-  write-accepted p o f d e =
-      let a = change-passed g (write p o f d) p (writeRows (g .blocks) (x .view) o f d) x refl e in
+  pub write-accepted : (i : Issuer) (o f : ℕ) (d : List ℕ) → changed g (write i o f d) (i .program) (writeRows (g .blocks) (x .view) o f d) x .returned ≡ 0 → Issuing g x (i .program) (writes (x .view) o f d)
+  write-accepted i o f d e =
+      let a = change-passed g (write i o f d) (i .program) (writeRows (g .blocks) (x .view) o f d) x refl e in
       let r = a .1 in
       let isf : isFile (entryAt (x .view) o) ≡ true = not-false _ (r .1 .1 .0) in
       let w = write-range f (length d) (length (contentsOf (entryAt (x .view) o))) (r .1 .1 .1 .0) in
@@ -273,11 +273,11 @@ module _ (g : Geometry) (x : Model) (s : Sound g x) where
       let f = few in
       rw (le-leb o 255 (omega arith)) (all-small l (a .1))
 
-  pub forder-accepted : (p : ℕ) (d : List ℕ) → changed g (forder p d) p (forderRows (x .view) d) x .returned ≡ 0 → Issuing g x p (Operation.forder (objectsOf d) ∷ [])
+  pub forder-accepted : (i : Issuer) (d : List ℕ) → changed g (forder i d) (i .program) (forderRows (x .view) d) x .returned ≡ 0 → Issuing g x (i .program) (Operation.forder (objectsOf d) ∷ [])
   unfolding applies validList
-  forder-accepted p d e =
+  forder-accepted i d e =
       let l = objectsOf d in
-      let a = change-passed g (forder p d) p (forderRows (x .view) d) x refl e in
+      let a = change-passed g (forder i d) (i .program) (forderRows (x .view) d) x refl e in
       let r = a .1 in
       let n₁ = neither (eqb (length d) 0 || (eqb (length d % 2) 1 || ltb 16 (length d))) (not (different l) || any (outside (x .view)) l) (r .0) in
       let n₂ = neither (eqb (length d) 0) (eqb (length d % 2) 1 || ltb 16 (length d)) (n₁ .0) in
@@ -327,11 +327,11 @@ module _ (g : Geometry) (x : Model) (s : Sound g x) where
   unfolding applies
   renamed-fit d e o n k t dir dir₂ is stay y = rw (dir, dir₂, is, at-found o, stays-there (isDirectory (entryAt (x .view) o)) (eqb d e) stay, y)
 
-  pub rename-accepted : (p d : ℕ) (n : List ℕ) (e : ℕ) (k : List ℕ) → changed g (rename p d n e k) p (renameRows (x .view) d n e k) x .returned ≡ 0
-      → (o : ℕ) × (search (x .view) d n ≡ some o) × Issuing g x p (Operation.rename o d e (displaced o (search (x .view) e k)) n k ∷ [])
-  rename-accepted p d n e k acc =
+  pub rename-accepted : (i : Issuer) (d : ℕ) (n : List ℕ) (e : ℕ) (k : List ℕ) → changed g (rename i d n e k) (i .program) (renameRows (x .view) d n e k) x .returned ≡ 0
+      → (o : ℕ) × (search (x .view) d n ≡ some o) × Issuing g x (i .program) (Operation.rename o d e (displaced o (search (x .view) e k)) n k ∷ [])
+  rename-accepted i d n e k acc =
       let v = x .view in
-      let a = change-passed g (rename p d n e k) p (renameRows (x .view) d n e k) x refl acc in
+      let a = change-passed g (rename i d n e k) (i .program) (renameRows (x .view) d n e k) x refl acc in
       let r = a .1 in
       let n₅ = neither (isBad (nameTextOf n)) (isBad (nameTextOf k)) (r .0) in
       let n₆ = neither (isLong (nameTextOf n)) (isLong (nameTextOf k)) (r .1 .0) in
@@ -349,9 +349,9 @@ module _ (g : Geometry) (x : Model) (s : Sound g x) where
       let q₉ = neither (isDirectory (entryAt v o) && not (eqb d e)) (ofFound t (λ i. not (eqb (kindNumber (entryAt v i)) (kindNumber (entryAt v o)))))
       (ap (λ (f : Option ℕ). ofFound f (wrongRename v d e k)) (sym is) ∙ n₉ .1) in
       let kids : ofFound t (hasChildren v) ≡ false = ap (λ (f : Option ℕ). ofFound f (λ i. ofFound (displaced i (search v e k)) (hasChildren v))) (sym is) ∙ r .1 .1 .1 .1 .1 .0 in
-      let count : length (issues (toldOf x) (rename p d n e k)) ≡ 1 = ap (λ (f : Option ℕ). length (onFound f (λ i. Operation.rename i d e (displaced i (search v e k)) n k))) is in
-      let room : length (x .log .slots) + length (issues (toldOf x) (rename p d n e k)) ≤ g .capacity = ltb-false _ _ (r .1 .1 .1 .1 .1 .1 .0) in
-      let number : x .log .head .next + length (issues (toldOf x) (rename p d n e k)) ≤ 4294967295 = ltb-false _ _ (r .1 .1 .1 .1 .1 .1 .1 .0) in
+      let count : length (issues (toldOf x) (rename i d n e k)) ≡ 1 = ap (λ (f : Option ℕ). length (onFound f (λ i. Operation.rename i d e (displaced i (search v e k)) n k))) is in
+      let room : length (x .log .slots) + length (issues (toldOf x) (rename i d n e k)) ≤ g .capacity = ltb-false _ _ (r .1 .1 .1 .1 .1 .1 .0) in
+      let number : x .log .head .next + length (issues (toldOf x) (rename i d n e k)) ≤ 4294967295 = ltb-false _ _ (r .1 .1 .1 .1 .1 .1 .1 .0) in
       let f : EntryFields (g .objects) o d n =
       record { low = search-inside v d n o is .0; object = found-below d n o is; parent = below d (n₇ .0); text = text-fine n (n₅ .0) (n₆ .0) } in
       let y = displaced-fit o d e n k f (below e (n₇ .1)) (text-fine k (n₅ .1) (n₆ .1)) (search v e k) refl (q₉ .1) kids in

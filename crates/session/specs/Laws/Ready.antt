@@ -13,8 +13,8 @@ use Rattle.volume_tree.specs.Volume.{Volume}
 use Rattle.volume_apply.specs.Apply.{applies, apply}
 use Rattle.log.specs.Change.{waitingOf, waitingAt}
 use Rattle.log.specs.Laws.Change.{waiting-at, sent-waiting, waiting-in-order}
-use Rattle.log.specs.Order.{any, before, needed, direct}
-use Rattle.log.specs.Laws.Order.{InOrder, any-in, before-earlier, needed-in, needed-sublist, needed-closed}
+use Rattle.log.specs.Order.{any, closure, before, needed, direct}
+use Rattle.log.specs.Laws.Order.{InOrder, any-in, before-earlier, hasOperand, closure-sublist, closure-in, closure-chain}
 use Rattle.session.specs.Call.{Geometry}
 use Rattle.session.specs.Model.{Model}
 use Rattle.session.specs.Effect.{send, perform, sends}
@@ -109,14 +109,19 @@ sub-order Sublistᴰ·slnil o = tt
 sub-order (Sublistᴰ·cons s) o = sub-order s (o .1)
 sub-order (Sublistᴰ·cons-cons e s) o = ((λ q m. subst (λ (x : Record). x .sequence < q .sequence) (sym e) (o .0 q (sub-in s q m))), sub-order s (o .1))
 
+-- what a test picks, with its predecessors, is ready
+pub closure-ready : (pick : Record → Bool) (w : List Record) → InOrder w → Ready w (closure pick before w)
+closure-ready pick w i =
+    record {
+      order = sub-order (closure-sublist pick before w) i;
+      wait = λ q m. closure-in pick before w m;
+      full = λ q a m n e. closure-chain pick w i n m (direct e);
+    }
+
 -- what fsync needs is ready
 pub needed-ready : (w : List Record) (o : ℕ) → InOrder w → Ready w (needed o w)
-needed-ready w o i =
-    record {
-      order = sub-order (needed-sublist o w) i;
-      wait = λ q m. needed-in o w m;
-      full = λ q a m n e. needed-closed o w i n m (direct e);
-    }
+unfolding needed
+needed-ready w o i = closure-ready (hasOperand o) w i
 
 -- how many apply: at most all, and of the first few as many as of all
 pub applying-most : (l : List Record) (v : Volume) → applying l v ≤ length l

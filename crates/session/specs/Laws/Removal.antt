@@ -15,7 +15,7 @@ use Rattle.volume_tree.specs.Volume.{Volume, entryAt, isChild, search, hasChild
 use Rattle.volume_tree.specs.Form.{wellFormed}
 use Rattle.volume_tree.specs.Laws.Search.{no-children}
 use Rattle.volume_tree.specs.Laws.Change.{well-formed-sound}
-use Rattle.session.specs.Call.{Geometry, Call, removeFile, removeDirectory, refusal}
+use Rattle.session.specs.Call.{Geometry, Issuer, Call, removeFile, removeDirectory, refusal}
 use Rattle.session.specs.Refusal.{row}
 use Rattle.session.specs.Model.{Model, programRows, toldOf}
 use Rattle.session.specs.Issue.{removes, issues}
@@ -57,43 +57,43 @@ eleven false false false false false false false false true j z = absurd (omega 
 eleven false false false false false false false false false true z = absurd (omega arith)
 eleven false false false false false false false false false false z = absurd (omega arith)
 
-module _ (g : Geometry) (x : Model) (p d : ℕ) (n : List ℕ) (o : ℕ) (l : Leads x p d n o) where
+module _ (g : Geometry) (x : Model) (i : Issuer) (d : ℕ) (n : List ℕ) (o : ℕ) (l : Leads x (i .program) d n o) where
   -- the first number of a remove's table is the answer
-  refused-by : (takes : Entry → Bool) (c : Call) (k : ℕ) → firstNumber (programRows (x .log) p ++ (removeRows takes (x .view) d n ++ roomRows g c x)) ≡ k → (k ≡ 0 → ⊥)
-      → changed g c p (removeRows takes (x .view) d n) x ≡ refusal k c
+  refused-by : (takes : Entry → Bool) (c : Call) (k : ℕ) → firstNumber (programRows (x .log) (i .program) ++ (removeRows takes (x .view) d n ++ roomRows g c x)) ≡ k → (k ≡ 0 → ⊥)
+      → changed g c (i .program) (removeRows takes (x .view) d n) x ≡ refusal k c
   refused-by takes c k e z =
-      let rows = programRows (x .log) p ++ (removeRows takes (x .view) d n ++ roomRows g c x) in
+      let rows = programRows (x .log) (i .program) ++ (removeRows takes (x .view) d n ++ roomRows g c x) in
       unless-refuses c rows _ k (first-lowest 0 rows refl ∙ e) z
 
   -- "Refusal 9 covers the wrong choice and comes before 11", and before 13 and 14
-  wrong-choice : (takes : Entry → Bool) (c : Call) → takes (entryAt (x .view) o) ≡ false → changed g c p (removeRows takes (x .view) d n) x ≡ refusal Returned.wrongKind c
+  wrong-choice : (takes : Entry → Bool) (c : Call) → takes (entryAt (x .view) o) ≡ false → changed g c (i .program) (removeRows takes (x .view) d n) x ≡ refusal Returned.wrongKind c
   unfolding firstNumber
   wrong-choice takes c h =
       refused-by takes c 9 (rw (l .program, l .unmarked, l .text, l .number, directory-used (entryAt (x .view) d) (l .parent), l .parent, l .found, h)) (λ z. omega arith)
 
   -- a directory by remove file, filled or not
-  pub directory-kept : isDirectory (entryAt (x .view) o) ≡ true → answerOf g (removeFile p d n) x ≡ refusal Returned.wrongKind (removeFile p d n)
+  pub directory-kept : isDirectory (entryAt (x .view) o) ≡ true → answerOf g (removeFile i d n) x ≡ refusal Returned.wrongKind (removeFile i d n)
   unfolding answerOf
-  directory-kept h = wrong-choice isFile (removeFile p d n) (directory-no-file (entryAt (x .view) o) h)
+  directory-kept h = wrong-choice isFile (removeFile i d n) (directory-no-file (entryAt (x .view) o) h)
 
   -- a file by remove directory
-  pub file-kept : isFile (entryAt (x .view) o) ≡ true → answerOf g (removeDirectory p d n) x ≡ refusal Returned.wrongKind (removeDirectory p d n)
+  pub file-kept : isFile (entryAt (x .view) o) ≡ true → answerOf g (removeDirectory i d n) x ≡ refusal Returned.wrongKind (removeDirectory i d n)
   unfolding answerOf
-  file-kept h = wrong-choice isDirectory (removeDirectory p d n) (file-no-directory (entryAt (x .view) o) h)
+  file-kept h = wrong-choice isDirectory (removeDirectory i d n) (file-no-directory (entryAt (x .view) o) h)
 
   -- a filled directory by remove directory
   pub filled-kept : isDirectory (entryAt (x .view) o) ≡ true → hasChildren (x .view) o ≡ true
-      → answerOf g (removeDirectory p d n) x ≡ refusal Returned.notEmpty (removeDirectory p d n)
+      → answerOf g (removeDirectory i d n) x ≡ refusal Returned.notEmpty (removeDirectory i d n)
   unfolding answerOf firstNumber
   filled-kept h k =
-      refused-by isDirectory (removeDirectory p d n) 11
+      refused-by isDirectory (removeDirectory i d n) 11
       (rw (l .program, l .unmarked, l .text, l .number, directory-used (entryAt (x .view) d) (l .parent), l .parent, l .found, h, k)) (λ z. omega arith)
 
-module _ (g : Geometry) (x : Model) (s : Sound g x) (p d : ℕ) (n : List ℕ) where
-  kind-removed : (takes : Entry → Bool) (c : Call) → issues (toldOf x) c ≡ removes (x .view) d n → changed g c p (removeRows takes (x .view) d n) x .returned ≡ 0 → Removable x takes d n
-  kind-removed takes c i e =
-      let r = change-passed g c p (removeRows takes (x .view) d n) x refl e .1 in
-      let f = remove-accepted g x s takes p d n c i e in
+module _ (g : Geometry) (x : Model) (s : Sound g x) (i : Issuer) (d : ℕ) (n : List ℕ) where
+  kind-removed : (takes : Entry → Bool) (c : Call) → issues (toldOf x) c ≡ removes (x .view) d n → changed g c (i .program) (removeRows takes (x .view) d n) x .returned ≡ 0 → Removable x takes d n
+  kind-removed takes c is e =
+      let r = change-passed g c (i .program) (removeRows takes (x .view) d n) x refl e .1 in
+      let f = remove-accepted g x s takes (i .program) d n c is e in
       let other = neither (not (isDirectory (entryAt (x .view) d))) (ofFound (search (x .view) d n) (λ o. not (takes (entryAt (x .view) o)))) (r .1 .1 .1 .1 .0) .1 in
       record {
         object = f .0;
@@ -103,21 +103,21 @@ module _ (g : Geometry) (x : Model) (s : Sound g x) (p d : ℕ) (n : List ℕ) w
       }
 
   -- "Remove file takes only files"
-  pub file-removed : answerOf g (removeFile p d n) x .returned ≡ 0 → Removable x isFile d n
+  pub file-removed : answerOf g (removeFile i d n) x .returned ≡ 0 → Removable x isFile d n
   unfolding answerOf
-  file-removed e = kind-removed isFile (removeFile p d n) refl e
+  file-removed e = kind-removed isFile (removeFile i d n) refl e
 
   -- "remove directory only empty directories"
-  pub directory-removed : answerOf g (removeDirectory p d n) x .returned ≡ 0 → Removable x isDirectory d n
+  pub directory-removed : answerOf g (removeDirectory i d n) x .returned ≡ 0 → Removable x isDirectory d n
   unfolding answerOf
-  directory-removed e = kind-removed isDirectory (removeDirectory p d n) refl e
+  directory-removed e = kind-removed isDirectory (removeDirectory i d n) refl e
 
   -- so remove file never says "not empty": in a well-formed volume a file has no children
-  pub file-never-full : answerOf g (removeFile p d n) x .returned ≡ Returned.notEmpty → ⊥
+  pub file-never-full : answerOf g (removeFile i d n) x .returned ≡ Returned.notEmpty → ⊥
   unfolding answerOf
   file-never-full e =
-      let rows = programRows (x .log) p ++ (removeRows isFile (x .view) d n ++ roomRows g (removeFile p d n) x) in
-      let first : firstNumber rows ≡ 11 = sym (first-lowest 0 rows refl) ∙ unless-number (removeFile p d n) rows _ 11 refl (λ z. omega arith) e in
+      let rows = programRows (x .log) (i .program) ++ (removeRows isFile (x .view) d n ++ roomRows g (removeFile i d n) x) in
+      let first : firstNumber rows ≡ 11 = sym (first-lowest 0 rows refl) ∙ unless-number (removeFile i d n) rows _ 11 refl (λ z. omega arith) e in
       let k = eleven _ _ _ _ _ _ _ _ _ _ first in
       go (search (x .view) d n) refl (neither (not (isDirectory (entryAt (x .view) d))) _ (k .0) .1) (k .1)
     where

@@ -11,7 +11,7 @@ use Rattle.record.specs.Operation.{Operation}
 use Rattle.volume_tree.specs.Stored.{readVolume}
 use Rattle.log.specs.Slot.{Log}
 use Rattle.session.specs.Class.{Change}
-use Rattle.session.specs.Call.{Geometry, change, geometry}
+use Rattle.session.specs.Call.{Geometry, Issuer, change, geometry}
 use Rattle.session.specs.Refusal.{Row, row}
 use Rattle.session.specs.Model.{programRows, roomFor, toldOf}
 use Rattle.session.specs.Issue.{operationsOf}
@@ -29,11 +29,11 @@ ownRow k = row k (not (eqb k 0))
 unfoldable pub changeNumber : Geometry → Log → ℕ → ℕ → ℕ → ℕ
 changeNumber g l p own count = firstNumber (programRows l p ++ (ownRow own ∷ roomFor g l count))
 
--- a change by program p, on three buffers that passed: its own rows give the number `own`, and where they let it pass it issues `count`
+-- a change, on three buffers that passed: its own rows give the number `own`, and where they let it pass it issues `count`
 -- operations
-pub record ChangeBy (n b m p : ℕ) (s v l : List ℕ) (c : Change) (own count : ℕ) : Type 0 where
+pub record ChangeBy (n b m : ℕ) (i : Issuer) (s v l : List ℕ) (c : Change) (own count : ℕ) : Type 0 where
   pub held : Admitted n b m s v l
-  pub rise : rising (rankOf Returned.marked) (changeRows (geometry n b m) (readVolume n b v) c ++ roomRows (geometry n b m) (change p c) (modelIn n b m s v l)) ≡ true
+  pub rise : rising (rankOf Returned.marked) (changeRows (geometry n b m) (readVolume n b v) c ++ roomRows (geometry n b m) (change i c) (modelIn n b m s v l)) ≡ true
   pub number : own ≡ firstNumber (changeRows (geometry n b m) (readVolume n b v) c)
   pub many : own ≡ 0 → length (operationsOf (toldOf (modelIn n b m s v l)) c) ≡ count
 

@@ -15,7 +15,7 @@ use Rattle.log.specs.Programs.{holds}
 use Rattle.log.specs.Slot.{Log}
 use Rattle.log.specs.Stored.{readLog}
 use Rattle.session.specs.Class.{Change}
-use Rattle.session.specs.Call.{Geometry, Buffers, change, Answer, geometry, buffers, answer}
+use Rattle.session.specs.Call.{Geometry, Buffers, Issuer, change, Answer, geometry, buffers, answer}
 use Rattle.session.specs.Refusal.{Row}
 use Rattle.session.specs.Model.{programRows, roomFor}
 use Rattle.session.specs.Edit.{roomRows, changeRows}
@@ -83,49 +83,49 @@ own-passes g l p own count h = go (not (ltb p 32)) (holds (l .head .marks) p) (e
     go false false false q e = e
 
 -- A change that is refused for what it is lent.
-pub lent-refuses : (g : Geometry) (p : ℕ) (c : Change) (s : Buffers) (k : ℕ) → k ≡ admission g s → (k ≡ 0 → ⊥) → (r : Value) → r ≡ value k 0
-    → given (r .returned) (r .value ∷ []) [] s ≡ step g (change p c) s
-lent-refuses g p c s k e z r q =
-    (λ i. record { gives = answer (q i .returned) (q i .value ∷ []) []; leaves = s }) ∙ sym (not-admitted g (change p c) s k (sym e) z)
+pub lent-refuses : (g : Geometry) (i : Issuer) (c : Change) (s : Buffers) (k : ℕ) → k ≡ admission g s → (k ≡ 0 → ⊥) → (r : Value) → r ≡ value k 0
+    → given (r .returned) (r .value ∷ []) [] s ≡ step g (change i c) s
+lent-refuses g i c s k e z r q =
+    (λ j. record { gives = answer (q j .returned) (q j .value ∷ []) []; leaves = s }) ∙ sym (not-admitted g (change i c) s k (sym e) z)
 
-module _ {n b m p : ℕ} {s v l : List ℕ} {c : Change} {own count : ℕ} (ch : ChangeBy n b m p s v l c own count) where
+module _ {n b m : ℕ} {i : Issuer} {s v l : List ℕ} {c : Change} {own count : ℕ} (ch : ChangeBy n b m i s v l c own count) where
   -- its own rows
   abbrev own-rows : List Row
   own-rows = changeRows (geometry n b m) (readVolume n b v) c
 
   -- The code's number is that of the whole table.
-  table-number : changeNumber (geometry n b m) (readLog m l) p own count
-      ≡ firstNumber (programRows (readLog m l) p ++ (own-rows ++ roomRows (geometry n b m) (change p c) (modelIn n b m s v l)))
+  table-number : changeNumber (geometry n b m) (readLog m l) (i .program) own count
+      ≡ firstNumber (programRows (readLog m l) (i .program) ++ (own-rows ++ roomRows (geometry n b m) (change i c) (modelIn n b m s v l)))
   unfolding changeNumber
   table-number =
       let g = geometry n b m in
       let x = modelIn n b m s v l in
-      over-program (readLog m l) p (ownRow own ∷ roomFor g (readLog m l) count) (own-rows ++ roomRows g (change p c) x)
-      (own-first own own-rows (roomFor g (readLog m l) count) (roomRows g (change p c) x) (rising-left (rankOf Returned.marked) own-rows (roomRows g (change p c) x) (ch .rise)) (ch .number)
+      over-program (readLog m l) (i .program) (ownRow own ∷ roomFor g (readLog m l) count) (own-rows ++ roomRows g (change i c) x)
+      (own-first own own-rows (roomFor g (readLog m l) count) (roomRows g (change i c) x) (rising-left (rankOf Returned.marked) own-rows (roomRows g (change i c) x) (ch .rise)) (ch .number)
       (λ z. ap (λ (k : ℕ). firstNumber (roomFor g (readLog m l) k)) (sym (ch .many z))))
 
   -- Refused: nothing changes.
-  pub change-refuses : (k : ℕ) → k ≡ changeNumber (geometry n b m) (readLog m l) p own count → (k ≡ 0 → ⊥) → (r : Value) → r ≡ value k 0
-      → given (r .returned) (r .value ∷ []) [] (buffers s v l) ≡ step (geometry n b m) (change p c) (buffers s v l)
+  pub change-refuses : (k : ℕ) → k ≡ changeNumber (geometry n b m) (readLog m l) (i .program) own count → (k ≡ 0 → ⊥) → (r : Value) → r ≡ value k 0
+      → given (r .returned) (r .value ∷ []) [] (buffers s v l) ≡ step (geometry n b m) (change i c) (buffers s v l)
   unfolding answerOf
   change-refuses k e z r q =
-      (λ i. record { gives = answer (q i .returned) (q i .value ∷ []) []; leaves = buffers s v l })
-      ∙ sym (refused n b m s v l (ch .held) (change p c) (programRows (readLog m l) p ++ (own-rows ++ roomRows (geometry n b m) (change p c) (modelIn n b m s v l)))
+      (λ j. record { gives = answer (q j .returned) (q j .value ∷ []) []; leaves = buffers s v l })
+      ∙ sym (refused n b m s v l (ch .held) (change i c) (programRows (readLog m l) (i .program) ++ (own-rows ++ roomRows (geometry n b m) (change i c) (modelIn n b m s v l)))
       (answer 0 (readLog m l .head .next ∷ []) []) refl (ch .rise) k (e ∙ table-number) z refl)
 
   -- Accepted: the answer is the next sequence number.
-  pub change-passes : (k : ℕ) → k ≡ changeNumber (geometry n b m) (readLog m l) p own count → k ≡ 0
-      → 0 ≡ firstNumber (programRows (readLog m l) p ++ (own-rows ++ roomRows (geometry n b m) (change p c) (modelIn n b m s v l)))
+  pub change-passes : (k : ℕ) → k ≡ changeNumber (geometry n b m) (readLog m l) (i .program) own count → k ≡ 0
+      → 0 ≡ firstNumber (programRows (readLog m l) (i .program) ++ (own-rows ++ roomRows (geometry n b m) (change i c) (modelIn n b m s v l)))
   change-passes k e z = sym z ∙ e ∙ table-number
 
-  pub change-accepted : (k : ℕ) → k ≡ changeNumber (geometry n b m) (readLog m l) p own count → k ≡ 0
-      → answerOf (geometry n b m) (change p c) (modelIn n b m s v l) .returned ≡ 0
+  pub change-accepted : (k : ℕ) → k ≡ changeNumber (geometry n b m) (readLog m l) (i .program) own count → k ≡ 0
+      → answerOf (geometry n b m) (change i c) (modelIn n b m s v l) .returned ≡ 0
   unfolding answerOf
   change-accepted k e z =
       ap (λ (a : Answer). a .returned)
-      (answered n b m s v l (ch .held) (change p c) (programRows (readLog m l) p ++ (own-rows ++ roomRows (geometry n b m) (change p c) (modelIn n b m s v l)))
+      (answered n b m s v l (ch .held) (change i c) (programRows (readLog m l) (i .program) ++ (own-rows ++ roomRows (geometry n b m) (change i c) (modelIn n b m s v l)))
       (answer 0 (readLog m l .head .next ∷ []) []) refl (ch .rise) (change-passes k e z))
 
   -- Its own rows let it pass.
-  pub change-own : (k : ℕ) → k ≡ changeNumber (geometry n b m) (readLog m l) p own count → k ≡ 0 → own ≡ 0
-  change-own k e z = own-passes (geometry n b m) (readLog m l) p own count (sym e ∙ z)
+  pub change-own : (k : ℕ) → k ≡ changeNumber (geometry n b m) (readLog m l) (i .program) own count → k ≡ 0 → own ≡ 0
+  change-own k e z = own-passes (geometry n b m) (readLog m l) (i .program) own count (sym e ∙ z)

@@ -12,7 +12,7 @@ use Rattle.volume_tree.specs.Stored.{readVolume}
 use Rattle.log.specs.Stored.{readLog}
 use Rattle.log.specs.Laws.Slot.{formed-inv}
 use Rattle.session.specs.Class.{Change}
-use Rattle.session.specs.Call.{change, geometry, buffers, answer}
+use Rattle.session.specs.Call.{Issuer, change, geometry, buffers, answer}
 use Rattle.session.specs.Issue.{operationsOf}
 use Rattle.session.specs.Edit.{roomRows, changeRows}
 use Rattle.session.specs.Model.{Model, agreeing, withView, withLog, programRows, toldOf}
@@ -84,28 +84,28 @@ performed p [] x = refl
 performed p (o ∷ os) x = performed p os (perform (issue p o) (perform (note p (operands o)) x))
 
 -- The accepted case of every change: the buffers store what issuing its operations leaves.
-pub changed-outcome : {n b m p : ℕ} {s v l : List ℕ} {c : Change} {own count : ℕ} (ch : ChangeBy n b m p s v l c own count) (k : ℕ)
-    → k ≡ changeNumber (geometry n b m) (readLog m l) p own count → k ≡ 0 → (os : List Operation) → operationsOf (toldOf (modelIn n b m s v l)) c ≡ os
-    → (x : ℕ) (log view : List ℕ) → AllIssued b m x log view (readVolume n b v) (readLog m l) p os → (r : Value) → r ≡ value 0 x
-    → given (r .returned) (r .value ∷ []) [] (buffers s view log) ≡ step (geometry n b m) (change p c) (buffers s v l)
+pub changed-outcome : {n b m : ℕ} {i : Issuer} {s v l : List ℕ} {c : Change} {own count : ℕ} (ch : ChangeBy n b m i s v l c own count) (k : ℕ)
+    → k ≡ changeNumber (geometry n b m) (readLog m l) (i .program) own count → k ≡ 0 → (os : List Operation) → operationsOf (toldOf (modelIn n b m s v l)) c ≡ os
+    → (x : ℕ) (log view : List ℕ) → AllIssued b m x log view (readVolume n b v) (readLog m l) (i .program) os → (r : Value) → r ≡ value 0 x
+    → given (r .returned) (r .value ∷ []) [] (buffers s view log) ≡ step (geometry n b m) (change i c) (buffers s v l)
 unfolding answerOf
-changed-outcome {n} {b} {m} {p} {s} {v} {l} {c} ch k e z os all x log view u r w =
+changed-outcome {n} {b} {m} {i} {s} {v} {l} {c} ch k e z os all x log view u r w =
     let g = geometry n b m in
     let y = modelIn n b m s v l in
     let a = answer 0 (readLog m l .head .next ∷ []) [] in
     let told = w ∙ ap (value 0) (u .gives) in
-    let left : encodeModel g (performAll (issuing p os) y) ≡ buffers s view log =
-    ap (encodeModel g) (performed p os y) ∙ (λ j. record { server = ch .held .server .stored j; view = sym (u .view) j; log = sym (u .log) j }) in
+    let left : encodeModel g (performAll (issuing (i .program) os) y) ≡ buffers s view log =
+    ap (encodeModel g) (performed (i .program) os y) ∙ (λ j. record { server = ch .held .server .stored j; view = sym (u .view) j; log = sym (u .log) j }) in
     (λ j. record { gives = answer (told j .returned) (told j .value ∷ []) []; leaves = sym left j })
     ∙ sym
-    (accepted n b m s v l (ch .held) (change p c) (programRows (readLog m l) p ++ (changeRows g (readVolume n b v) c ++ roomRows g (change p c) y)) a refl (ch .rise) (change-passes ch k e z) refl
-    ∙ ap (λ (f : List Effect). record { gives = a; leaves = encodeModel g (performAll f y) }) (ap (issuing p) all))
+    (accepted n b m s v l (ch .held) (change i c) (programRows (readLog m l) (i .program) ++ (changeRows g (readVolume n b v) c ++ roomRows g (change i c) y)) a refl (ch .rise) (change-passes ch k e z) refl
+    ∙ ap (λ (f : List Effect). record { gives = a; leaves = encodeModel g (performAll f y) }) (ap (issuing (i .program)) all))
 
 -- Where it issues one operation, what issuing that one leaves.
-pub issued-outcome : {n b m p : ℕ} {s v l : List ℕ} {c : Change} {own count : ℕ} (ch : ChangeBy n b m p s v l c own count) (k : ℕ)
-    → k ≡ changeNumber (geometry n b m) (readLog m l) p own count → k ≡ 0
-    → (o : Operation) → operationsOf (toldOf (modelIn n b m s v l)) c ≡ o ∷ [] → (d : Record) → d ≡ recordOf (readLog m l .head .next) p o
+pub issued-outcome : {n b m : ℕ} {i : Issuer} {s v l : List ℕ} {c : Change} {own count : ℕ} (ch : ChangeBy n b m i s v l c own count) (k : ℕ)
+    → k ≡ changeNumber (geometry n b m) (readLog m l) (i .program) own count → k ≡ 0
+    → (o : Operation) → operationsOf (toldOf (modelIn n b m s v l)) c ≡ o ∷ [] → (d : Record) → d ≡ recordOf (readLog m l .head .next) (i .program) o
     → (x : ℕ) (log view : List ℕ) → Issued n b m x log view (readVolume n b v) (readLog m l) d → (r : Value) → r ≡ value 0 x
-    → given (r .returned) (r .value ∷ []) [] (buffers s view log) ≡ step (geometry n b m) (change p c) (buffers s v l)
-issued-outcome {n} {b} {m} {p} {s} {v} {l} ch k e z o one d q x log view u r w =
+    → given (r .returned) (r .value ∷ []) [] (buffers s view log) ≡ step (geometry n b m) (change i c) (buffers s v l)
+issued-outcome {n} {b} {m} {i} {s} {v} {l} ch k e z o one d q x log view u r w =
     changed-outcome ch k e z (o ∷ []) one x log view (one-issued (subst (Issued n b m x log view (readVolume n b v) (readLog m l)) q u)) r w

@@ -6,7 +6,7 @@ use Rattle.record.specs.Fields.{objectsOf}
 use Rattle.record_writer.specs.Code.Writer.{forderRecord}
 use Rattle.log.specs.Stored.{readLog}
 use Rattle.session.specs.Class
-use Rattle.session.specs.Call.{geometry, buffers}
+use Rattle.session.specs.Call.{geometry, buffers, issuer}
 use Rattle.session.specs.Call
 use Rattle.session_admission.specs.Code.Admitted.{Admitted}
 use Rattle.session_admission.specs.Laws.Admitted.{admitted}
@@ -30,11 +30,11 @@ held c =
     admitted (a .n) (a .b) (a .m) (a .server .now) (a .view .now) (a .log .now) (sym (c .before .admit .ensures) ∙ c .if1 .left)
 
 -- the call as a change, with the number that its own table gives
-change : (c : tie.After-change-refusal) → let a = start (c .before .before .before) .args in ChangeBy (a .n) (a .b) (a .m) (a .program) (a .server .now) (a .view .now) (a .log .now) (Class.forder (a .list .now)) (c .before .before .forder-refusal .result) 1
+change : (c : tie.After-change-refusal) → let a = start (c .before .before .before) .args in ChangeBy (a .n) (a .b) (a .m) (issuer (a .program)) (a .server .now) (a .view .now) (a .log .now) (Class.forder (a .list .now)) (c .before .before .forder-refusal .result) 1
 change c =
     let a = start (c .before .before .before) .args in
     let w = c .before .before .forder-refusal in
-    forder-change (held (c .before .before .before)) (a .program) (a .list .now) (w .result) (w .ensures)
+    forder-change (held (c .before .before .before)) (issuer (a .program)) (a .list .now) (w .result) (w .ensures)
 
 admit-requires : tie.Need-admit-requires
 admit-requires c κs = search needs
@@ -50,7 +50,7 @@ returns c =
     let d = c .before .before in
     let start = d .before .before .before .before .before .before in
     let a = start .args in
-    lent-refuses (geometry (a .n) (a .b) (a .m)) (a .program) (Class.forder (a .list .now)) (buffers (a .server .now) (a .view .now) (a .log .now)) (d .admit .result)
+    lent-refuses (geometry (a .n) (a .b) (a .m)) (issuer (a .program)) (Class.forder (a .list .now)) (buffers (a .server .now) (a .view .now) (a .log .now)) (d .admit .result)
     (d .admit .ensures) (c .before .if1 .taken) (c .refused .result) (c .refused .ensures)
 
 forder-refusal-requires : tie.Need-forder-refusal-requires
@@ -78,13 +78,13 @@ issue-forder-requires c κs =
     let w = k .before .before .forder-refusal in
     let h = held (k .before .before .before) in
     let a = start (k .before .before .before) .args in
-    let i = forder-issuing h (a .program) (a .list .now) (w .result) (w .ensures) (k .change-refusal .result) (k .change-refusal .ensures) (e .if2 .left) in
+    let i = forder-issuing h (issuer (a .program)) (a .list .now) (w .result) (w .ensures) (k .change-refusal .result) (k .change-refusal .ensures) (e .if2 .left) in
     let able = issuing-able h i (forderRecord (readLog (a .m) (a .log .now) .head .next) (a .program) (a .list .now)) refl in (
       h .log,
       (
         issuing-room h i,
         (
-          forder-even h (a .program) (a .list .now) (w .result) (w .ensures) (k .change-refusal .result) (k .change-refusal .ensures) (e .if2 .left),
+          forder-even h (issuer (a .program)) (a .list .now) (w .result) (w .ensures) (k .change-refusal .result) (k .change-refusal .ensures) (e .if2 .left),
           record { sound = able .sound; fit = able .fit },
         ),
       ),

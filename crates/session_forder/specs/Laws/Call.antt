@@ -12,7 +12,7 @@ use Rattle.volume_apply.specs.Laws.Apply.{apply-forder}
 use Rattle.log.specs.Stored.{readLog}
 use Rattle.log_draft.specs.Code.Issued.{Waits, Issued}
 use Rattle.session.specs.Class
-use Rattle.session.specs.Call.{geometry}
+use Rattle.session.specs.Call.{Issuer, geometry}
 use Rattle.session.specs.Call
 use Rattle.session.specs.Edit.{forderRows}
 use Rattle.session.specs.Step.{answerOf}
@@ -24,9 +24,9 @@ use Rattle.session_change.specs.Code.Change.{changeNumber, ChangeBy}
 use Rattle.session_change.specs.Laws.Change.{change-accepted, change-own}
 use Rattle.session_forder.specs.Laws.List.{list-even}
 
-module _ {n b m : ℕ} {s v l : List ℕ} (h : Admitted n b m s v l) (p : ℕ) where
+module _ {n b m : ℕ} {s v l : List ℕ} (h : Admitted n b m s v l) (i : Issuer) where
   module _ (d : List ℕ) (own : ℕ) (number : own ≡ firstNumber (forderRows (readVolume n b v) d)) where
-    pub forder-change : ChangeBy n b m p s v l (Class.forder d) own 1
+    pub forder-change : ChangeBy n b m i s v l (Class.forder d) own 1
     unfolding answerOf
     forder-change =
         record {
@@ -36,10 +36,10 @@ module _ {n b m : ℕ} {s v l : List ℕ} (h : Admitted n b m s v l) (p : ℕ) w
           many = λ z. refl;
         }
 
-    module _ (k : ℕ) (e : k ≡ changeNumber (geometry n b m) (readLog m l) p own 1) (z : k ≡ 0) where
-      pub forder-issuing : Issuing (geometry n b m) (modelIn n b m s v l) p (Operation.forder (objectsOf d) ∷ [])
+    module _ (k : ℕ) (e : k ≡ changeNumber (geometry n b m) (readLog m l) (i .program) own 1) (z : k ≡ 0) where
+      pub forder-issuing : Issuing (geometry n b m) (modelIn n b m s v l) (i .program) (Operation.forder (objectsOf d) ∷ [])
       unfolding answerOf
-      forder-issuing = forder-accepted (geometry n b m) (modelIn n b m s v l) (h .holds .sound) p d (change-accepted forder-change k e z)
+      forder-issuing = forder-accepted (geometry n b m) (modelIn n b m s v l) (h .holds .sound) i d (change-accepted forder-change k e z)
 
       -- The list of an accepted forder is of even length.
       pub forder-even : length d % 2 ≡ 0

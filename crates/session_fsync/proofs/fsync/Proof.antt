@@ -5,8 +5,6 @@ use mathlib.Core.List.{List, [], _∷_}
 use mathlib.Core.Logic.{⊎-elim}
 use Prim.Native.Nat.{ℕ}
 use lib.ListN.{length}
-use Rattle.volume_tree.specs.Stored.{readVolume}
-use Rattle.log.specs.Stored.{readLog}
 use types.Run.{OneOf}
 use denote.Enum.Declared.{tagOf}
 use Rattle.log_fsync.proofs.Synced.{the-type}

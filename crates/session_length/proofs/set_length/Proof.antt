@@ -5,7 +5,7 @@ use Rattle.record.specs.Operation.{Operation}
 use Rattle.record_writer.specs.Code.Writer.{lengthRecord}
 use Rattle.log.specs.Stored.{readLog}
 use Rattle.session.specs.Class
-use Rattle.session.specs.Call.{geometry, buffers}
+use Rattle.session.specs.Call.{geometry, buffers, issuer}
 use Rattle.session.specs.Call
 use Rattle.session.specs.Laws.Issuing.{Issuing}
 use Rattle.session_admission.specs.Code.Admitted.{modelIn, Admitted}
@@ -31,16 +31,16 @@ held c =
     admitted (a .n) (a .b) (a .m) (a .server .now) (a .view .now) (a .log .now) (sym (c .before .admit .ensures) ∙ c .if1 .left)
 
 -- the call as a change, with the number that its own table gives
-change : (c : tie.After-change-refusal) → let a = start (c .before .before .before .before) .args in ChangeBy (a .n) (a .b) (a .m) (a .program) (a .server .now) (a .view .now) (a .log .now) (Class.setLength (a .object) (a .length)) (c .before .before .length-refusal .result) 1
+change : (c : tie.After-change-refusal) → let a = start (c .before .before .before .before) .args in ChangeBy (a .n) (a .b) (a .m) (issuer (a .program)) (a .server .now) (a .view .now) (a .log .now) (Class.setLength (a .object) (a .length)) (c .before .before .length-refusal .result) 1
 change c =
     let a = start (c .before .before .before .before) .args in
-    length-change (held (c .before .before .before .before)) (a .program) (a .object) (a .length) (c .before .before .length-refusal .result) (c .before .before .length-refusal .ensures)
+    length-change (held (c .before .before .before .before)) (issuer (a .program)) (a .object) (a .length) (c .before .before .length-refusal .result) (c .before .before .length-refusal .ensures)
 
 passed : (c : tie.Else2) → let a = start (c .before .before .before .before .before) .args in Issuing (geometry (a .n) (a .b) (a .m)) (modelIn (a .n) (a .b) (a .m) (a .server .now) (a .view .now) (a .log .now)) (a .program) (Operation.setLength (a .object) (a .length) ∷ [])
 passed c =
     let k = c .before in
     let a = start (k .before .before .before .before) .args in
-    length-issuing (held (k .before .before .before .before)) (a .program) (a .object) (a .length) (k .before .before .length-refusal .result) (k .before .before .length-refusal .ensures) (k .change-refusal .result) (k .change-refusal .ensures) (c .if2 .left)
+    length-issuing (held (k .before .before .before .before)) (issuer (a .program)) (a .object) (a .length) (k .before .before .length-refusal .result) (k .before .before .length-refusal .ensures) (k .change-refusal .result) (k .change-refusal .ensures) (c .if2 .left)
 
 admit-requires : tie.Need-admit-requires
 admit-requires c κs = search needs
@@ -59,7 +59,7 @@ returns c =
     let d = c .before .before in
     let start = d .before .before .before .before .before .before in
     let a = start .args in
-    lent-refuses (geometry (a .n) (a .b) (a .m)) (a .program) (Class.setLength (a .object) (a .length)) (buffers (a .server .now) (a .view .now) (a .log .now)) (d .admit .result)
+    lent-refuses (geometry (a .n) (a .b) (a .m)) (issuer (a .program)) (Class.setLength (a .object) (a .length)) (buffers (a .server .now) (a .view .now) (a .log .now)) (d .admit .result)
     (d .admit .ensures) (c .before .if1 .taken) (c .refused .result) (c .refused .ensures)
 
 length-refusal-requires : tie.Need-length-refusal-requires

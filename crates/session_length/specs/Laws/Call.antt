@@ -6,7 +6,7 @@ use Rattle.record.specs.Operation.{Operation}
 use Rattle.volume_tree.specs.Stored.{readVolume}
 use Rattle.log.specs.Stored.{readLog}
 use Rattle.session.specs.Class
-use Rattle.session.specs.Call.{geometry}
+use Rattle.session.specs.Call.{Issuer, geometry}
 use Rattle.session.specs.Call
 use Rattle.session.specs.Edit.{lengthRows}
 use Rattle.session.specs.Step.{answerOf}
@@ -17,9 +17,9 @@ use Rattle.session_admission.specs.Code.Admitted.{modelIn, Admitted}
 use Rattle.session_change.specs.Code.Change.{changeNumber, ChangeBy}
 use Rattle.session_change.specs.Laws.Change.{change-accepted}
 
-module _ {n b m : ℕ} {s v l : List ℕ} (h : Admitted n b m s v l) (p : ℕ) where
+module _ {n b m : ℕ} {s v l : List ℕ} (h : Admitted n b m s v l) (i : Issuer) where
   module _ (o f : ℕ) (own : ℕ) (number : own ≡ firstNumber (lengthRows b (readVolume n b v) o f)) where
-    pub length-change : ChangeBy n b m p s v l (Class.setLength o f) own 1
+    pub length-change : ChangeBy n b m i s v l (Class.setLength o f) own 1
     unfolding answerOf
     length-change =
         record {
@@ -29,7 +29,7 @@ module _ {n b m : ℕ} {s v l : List ℕ} (h : Admitted n b m s v l) (p : ℕ) w
           many = λ z. refl;
         }
 
-    pub length-issuing : (k : ℕ) → k ≡ changeNumber (geometry n b m) (readLog m l) p own 1 → k ≡ 0
-        → Issuing (geometry n b m) (modelIn n b m s v l) p (Operation.setLength o f ∷ [])
+    pub length-issuing : (k : ℕ) → k ≡ changeNumber (geometry n b m) (readLog m l) (i .program) own 1 → k ≡ 0
+        → Issuing (geometry n b m) (modelIn n b m s v l) (i .program) (Operation.setLength o f ∷ [])
     unfolding answerOf
-    length-issuing k e z = length-accepted (geometry n b m) (modelIn n b m s v l) (h .holds .sound) p o f (change-accepted length-change k e z)
+    length-issuing k e z = length-accepted (geometry n b m) (modelIn n b m s v l) (h .holds .sound) i o f (change-accepted length-change k e z)

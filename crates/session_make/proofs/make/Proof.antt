@@ -3,7 +3,7 @@ use native.Mathlib.Omega.{arith}
 use mathlib.Core.Path.{sym, _∙_}
 use Rattle.log.specs.Stored.{readLog}
 use Rattle.session.specs.Model.{toldOf}
-use Rattle.session.specs.Call.{geometry, buffers}
+use Rattle.session.specs.Call.{geometry, buffers, issuer}
 use Rattle.session_admission.specs.Code.Admitted.{modelIn}
 use Rattle.session_admission.specs.Laws.Admitted.{admitted}
 use Rattle.session_change.specs.Laws.Change.{lent-refuses, change-refuses, change-accepted}
@@ -31,7 +31,7 @@ returns c =
     let y = c .before .before in
     let start = y .before .before .before .before .before .before .before in
     let a = start .args in
-    lent-refuses (geometry (a .n) (a .b) (a .m)) (a .program) (makeChange (a .directory) (a .parent) (a .name .now) (a .object))
+    lent-refuses (geometry (a .n) (a .b) (a .m)) (issuer (a .program)) (makeChange (a .directory) (a .parent) (a .name .now) (a .object))
     (buffers (a .server .now) (a .view .now) (a .log .now)) (y .admit .result)
     (y .admit .ensures) (c .before .if1 .taken) (c .refused .result) (c .refused .ensures)
 
@@ -68,7 +68,7 @@ returns-2 c =
     let start = y .before .before .before .before .before .before .before in
     let a = start .args in
     let h = admitted (a .n) (a .b) (a .m) (a .server .now) (a .view .now) (a .log .now) (sym (y .admit .ensures) ∙ at-if1 .if1 .left) in
-    let ch = make-change (a .n) (a .b) (a .m) (a .program) (a .server .now) (a .view .now) (a .log .now) h (a .directory) (a .parent) (a .name .now) (a .object)
+    let ch = make-change (a .n) (a .b) (a .m) (issuer (a .program)) (a .server .now) (a .view .now) (a .log .now) h (a .directory) (a .parent) (a .name .now) (a .object)
     (x .make-refusal .result) (x .make-refusal .ensures) in
     change-refuses ch (k .change-refusal .result) (k .change-refusal .ensures) (c .before .if2 .taken) (c .refused2 .result) (c .refused2 .ensures)
 
@@ -86,9 +86,9 @@ issue-entry-requires c κs =
     let start = y .before .before .before .before .before .before .before in
     let a = start .args in
     let h = admitted (a .n) (a .b) (a .m) (a .server .now) (a .view .now) (a .log .now) (sym (y .admit .ensures) ∙ at-if1 .if1 .left) in
-    let ch = make-change (a .n) (a .b) (a .m) (a .program) (a .server .now) (a .view .now) (a .log .now) h (a .directory) (a .parent) (a .name .now) (a .object)
+    let ch = make-change (a .n) (a .b) (a .m) (issuer (a .program)) (a .server .now) (a .view .now) (a .log .now) h (a .directory) (a .parent) (a .name .now) (a .object)
     (x .make-refusal .result) (x .make-refusal .ensures) in
-    let i = make-issuing (a .n) (a .b) (a .m) (a .program) (a .server .now) (a .view .now) (a .log .now) h (a .directory) (a .parent) (a .name .now) (a .object)
+    let i = make-issuing (a .n) (a .b) (a .m) (issuer (a .program)) (a .server .now) (a .view .now) (a .log .now) h (a .directory) (a .parent) (a .name .now) (a .object)
     (change-accepted ch (k .change-refusal .result) (k .change-refusal .ensures) (at-if2 .if2 .left)) in
     let r = make-record (a .directory) (at-kind-of .kind-of .result) (at-kind-of .kind-of .ensures) (readLog (a .m) (a .log .now) .head .next) (a .program)
     (a .object) (a .parent) (a .name .now) in
@@ -115,13 +115,13 @@ returns-3 c =
     let start = y .before .before .before .before .before .before .before in
     let a = start .args in
     let h = admitted (a .n) (a .b) (a .m) (a .server .now) (a .view .now) (a .log .now) (sym (y .admit .ensures) ∙ at-if1 .if1 .left) in
-    let ch = make-change (a .n) (a .b) (a .m) (a .program) (a .server .now) (a .view .now) (a .log .now) h (a .directory) (a .parent) (a .name .now) (a .object)
+    let ch = make-change (a .n) (a .b) (a .m) (issuer (a .program)) (a .server .now) (a .view .now) (a .log .now) h (a .directory) (a .parent) (a .name .now) (a .object)
     (x .make-refusal .result) (x .make-refusal .ensures) in
     let r = make-record (a .directory) (at-kind-of .kind-of .result) (at-kind-of .kind-of .ensures) (readLog (a .m) (a .log .now) .head .next)
     (a .program) (a .object) (a .parent) (a .name .now) in
     issued-outcome ch (k .change-refusal .result) (k .change-refusal .ensures) (at-if2 .if2 .left)
     (makeOperation (a .directory) (a .object) (a .parent) (a .name .now))
-    (make-issues (a .directory) (toldOf (modelIn (a .n) (a .b) (a .m) (a .server .now) (a .view .now) (a .log .now))) (a .program) (a .parent) (a .name .now) (a .object)) _ (r .1) (u .issue-entry .result)
+    (make-issues (a .directory) (toldOf (modelIn (a .n) (a .b) (a .m) (a .server .now) (a .view .now) (a .log .now))) (issuer (a .program)) (a .parent) (a .name .now) (a .object)) _ (r .1) (u .issue-entry .result)
     (u .issue-entry .last .0) (u .issue-entry .last .1 .0) (u .issue-entry .ensures) (c .of .result) (c .of .ensures)
 
 pub make-spec : {M : Type 1} → statement M

@@ -10,7 +10,7 @@ use Rattle.volume_tree.specs.Volume.{Volume}
 use Rattle.volume_tree.specs.Stored.{readVolume}
 use Rattle.record_writer.specs.Code.Writer.{entryRecord}
 use Rattle.session.specs.Told.{Told}
-use Rattle.session.specs.Call.{geometry}
+use Rattle.session.specs.Call.{Issuer, geometry}
 use Rattle.session.specs.Issue.{issues}
 use Rattle.session.specs.Edit.{makeRows}
 use Rattle.session.specs.Step.{answerOf}
@@ -26,23 +26,23 @@ abbrev pub makeOperation : Bool → ℕ → ℕ → List ℕ → Operation
 makeOperation true o d n = Operation.makeDirectory o d n
 makeOperation false o d n = Operation.createFile o d n
 
-pub make-issues : (dir : Bool) (t : Told) (p d : ℕ) (name : List ℕ) (o : ℕ) → issues t (makeCall dir p d name o) ≡ makeOperation dir o d name ∷ []
-make-issues true t p d name o = refl
-make-issues false t p d name o = refl
+pub make-issues : (dir : Bool) (t : Told) (i : Issuer) (d : ℕ) (name : List ℕ) (o : ℕ) → issues t (makeCall dir i d name o) ≡ makeOperation dir o d name ∷ []
+make-issues true t i d name o = refl
+make-issues false t i d name o = refl
 
-module _ (n b m p : ℕ) (s v l : List ℕ) (h : Admitted n b m s v l) where
-  pub make-change : (dir : Bool) (d : ℕ) (name : List ℕ) (o own : ℕ) → own ≡ firstNumber (makeRows (readVolume n b v) d name o) → ChangeBy n b m p s v l (makeChange dir d name o) own 1
+module _ (n b m : ℕ) (i : Issuer) (s v l : List ℕ) (h : Admitted n b m s v l) where
+  pub make-change : (dir : Bool) (d : ℕ) (name : List ℕ) (o own : ℕ) → own ≡ firstNumber (makeRows (readVolume n b v) d name o) → ChangeBy n b m i s v l (makeChange dir d name o) own 1
   unfolding answerOf
   make-change true d name o own e =
       record { held = h; rise = refl; number = e; many = λ z. refl }
   make-change false d name o own e =
       record { held = h; rise = refl; number = e; many = λ z. refl }
 
-  pub make-issuing : (dir : Bool) (d : ℕ) (name : List ℕ) (o : ℕ) → answerOf (geometry n b m) (makeCall dir p d name o) (modelIn n b m s v l) .returned ≡ 0
-      → Issuing (geometry n b m) (modelIn n b m s v l) p (makeOperation dir o d name ∷ [])
+  pub make-issuing : (dir : Bool) (d : ℕ) (name : List ℕ) (o : ℕ) → answerOf (geometry n b m) (makeCall dir i d name o) (modelIn n b m s v l) .returned ≡ 0
+      → Issuing (geometry n b m) (modelIn n b m s v l) (i .program) (makeOperation dir o d name ∷ [])
   unfolding answerOf
-  make-issuing true d name o e = make-accepted (geometry n b m) (modelIn n b m s v l) (h .holds .sound) p d name o e
-  make-issuing false d name o e = create-accepted (geometry n b m) (modelIn n b m s v l) (h .holds .sound) p d name o e
+  make-issuing true d name o e = make-accepted (geometry n b m) (modelIn n b m s v l) (h .holds .sound) i d name o e
+  make-issuing false d name o e = create-accepted (geometry n b m) (modelIn n b m s v l) (h .holds .sound) i d name o e
 
 -- The record that is written is that of this operation.
 pub make-record : (dir : Bool) (kind : Kind) → kind ≡ makeKind dir → (q p o d : ℕ) (name : List ℕ)

@@ -4,7 +4,7 @@ use mathlib.Core.Path.{refl, sym, _∙_}
 use Rattle.record.specs.Operation.{Operation}
 use Rattle.log.specs.Stored.{readLog}
 use Rattle.session.specs.Model.{toldOf}
-use Rattle.session.specs.Call.{geometry, buffers}
+use Rattle.session.specs.Call.{geometry, buffers, issuer}
 use Rattle.session_admission.specs.Code.Admitted.{modelIn}
 use Rattle.session_admission.specs.Laws.Admitted.{admitted}
 use Rattle.session_change.specs.Laws.Change.{lent-refuses, change-refuses, change-accepted, change-own}
@@ -32,7 +32,7 @@ returns c =
     let y = c .before .before in
     let start = y .before .before .before .before .before .before .before in
     let a = start .args in
-    lent-refuses (geometry (a .n) (a .b) (a .m)) (a .program) (removeChange (a .directory) (a .parent) (a .name .now)) (buffers (a .server .now) (a .view .now) (a .log .now))
+    lent-refuses (geometry (a .n) (a .b) (a .m)) (issuer (a .program)) (removeChange (a .directory) (a .parent) (a .name .now)) (buffers (a .server .now) (a .view .now) (a .log .now))
     (y .admit .result) (y .admit .ensures) (c .before .if1 .taken) (c .refused .result) (c .refused .ensures)
 
 remove-refusal-requires : tie.Need-remove-refusal-requires
@@ -68,7 +68,7 @@ returns-2 c =
     let start = y .before .before .before .before .before .before .before in
     let a = start .args in
     let h = admitted (a .n) (a .b) (a .m) (a .server .now) (a .view .now) (a .log .now) (sym (y .admit .ensures) ∙ at-if1 .if1 .left) in
-    let ch = remove-change (a .n) (a .b) (a .m) (a .program) (a .server .now) (a .view .now) (a .log .now) h (a .directory) (a .parent) (a .name .now)
+    let ch = remove-change (a .n) (a .b) (a .m) (issuer (a .program)) (a .server .now) (a .view .now) (a .log .now) h (a .directory) (a .parent) (a .name .now)
     (x .remove-refusal .result .refused) (x .remove-refusal .result .object) (x .remove-refusal .ensures) in
     change-refuses ch (k .change-refusal .result) (k .change-refusal .ensures) (c .before .if2 .taken) (c .refused2 .result) (c .refused2 .ensures)
 
@@ -82,10 +82,10 @@ issue-entry-requires c κs =
     let start = y .before .before .before .before .before .before .before in
     let a = start .args in
     let h = admitted (a .n) (a .b) (a .m) (a .server .now) (a .view .now) (a .log .now) (sym (y .admit .ensures) ∙ at-if1 .if1 .left) in
-    let ch = remove-change (a .n) (a .b) (a .m) (a .program) (a .server .now) (a .view .now) (a .log .now) h (a .directory) (a .parent) (a .name .now)
+    let ch = remove-change (a .n) (a .b) (a .m) (issuer (a .program)) (a .server .now) (a .view .now) (a .log .now) h (a .directory) (a .parent) (a .name .now)
     (x .remove-refusal .result .refused) (x .remove-refusal .result .object) (x .remove-refusal .ensures) in
     let is = x .remove-refusal .ensures .found (change-own ch (k .change-refusal .result) (k .change-refusal .ensures) (at-if2 .if2 .left)) in
-    let i = remove-issuing (a .n) (a .b) (a .m) (a .program) (a .server .now) (a .view .now) (a .log .now) h (a .directory) (a .parent) (a .name .now)
+    let i = remove-issuing (a .n) (a .b) (a .m) (issuer (a .program)) (a .server .now) (a .view .now) (a .log .now) h (a .directory) (a .parent) (a .name .now)
     (x .remove-refusal .result .object) is (change-accepted ch (k .change-refusal .result) (k .change-refusal .ensures) (at-if2 .if2 .left)) in
     let r = remove-record (readLog (a .m) (a .log .now) .head .next) (a .program) (x .remove-refusal .result .object) (a .parent) (a .name .now) in
     (h .log, (h .view, (issuing-room h i, (refl, issuing-able h i _ r))))
@@ -110,14 +110,14 @@ returns-3 c =
     let start = y .before .before .before .before .before .before .before in
     let a = start .args in
     let h = admitted (a .n) (a .b) (a .m) (a .server .now) (a .view .now) (a .log .now) (sym (y .admit .ensures) ∙ at-if1 .if1 .left) in
-    let ch = remove-change (a .n) (a .b) (a .m) (a .program) (a .server .now) (a .view .now) (a .log .now) h (a .directory) (a .parent) (a .name .now)
+    let ch = remove-change (a .n) (a .b) (a .m) (issuer (a .program)) (a .server .now) (a .view .now) (a .log .now) h (a .directory) (a .parent) (a .name .now)
     (x .remove-refusal .result .refused) (x .remove-refusal .result .object) (x .remove-refusal .ensures) in
     let is = x .remove-refusal .ensures .found
     (change-own ch (k .change-refusal .result) (k .change-refusal .ensures) (at-if2 .if2 .left)) in
     let r = remove-record (readLog (a .m) (a .log .now) .head .next) (a .program) (x .remove-refusal .result .object) (a .parent) (a .name .now) in
     issued-outcome ch (k .change-refusal .result) (k .change-refusal .ensures) (at-if2 .if2 .left)
     (Operation.remove (x .remove-refusal .result .object) (a .parent) (a .name .now))
-    (remove-issues (a .directory) (toldOf (modelIn (a .n) (a .b) (a .m) (a .server .now) (a .view .now) (a .log .now))) (a .program) (a .parent) (a .name .now) (x .remove-refusal .result .object) is) _ r
+    (remove-issues (a .directory) (toldOf (modelIn (a .n) (a .b) (a .m) (a .server .now) (a .view .now) (a .log .now))) (issuer (a .program)) (a .parent) (a .name .now) (x .remove-refusal .result .object) is) _ r
     (u .issue-entry .result)
     (u .issue-entry .last .0) (u .issue-entry .last .1 .0) (u .issue-entry .ensures) (c .of .result) (c .of .ensures)
 

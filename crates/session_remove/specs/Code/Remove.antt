@@ -7,7 +7,7 @@ use Rattle.returned.specs.Returned
 use Rattle.volume_entry.specs.Entry.{Entry, isFile, isDirectory}
 use Rattle.volume_tree.specs.Volume.{Volume, entryAt, hasChildren}
 use Rattle.session.specs.Class.{Change, removeFile, removeDirectory}
-use Rattle.session.specs.Call.{Call, change}
+use Rattle.session.specs.Call.{Issuer, Call, change}
 use Rattle.session.specs.Refusal.{Row, row}
 
 -- the two changes that remove an entry, as calls, and the kind that each takes
@@ -15,8 +15,8 @@ abbrev pub removeChange : Bool → ℕ → List ℕ → Change
 removeChange true d n = removeDirectory d n
 removeChange false d n = removeFile d n
 
-abbrev pub removeCall : Bool → ℕ → ℕ → List ℕ → Call
-removeCall dir p d n = change p (removeChange dir d n)
+abbrev pub removeCall : Bool → Issuer → ℕ → List ℕ → Call
+removeCall dir i d n = change i (removeChange dir d n)
 
 abbrev pub removedKind : Bool → Entry → Bool
 removedKind true e = isDirectory e

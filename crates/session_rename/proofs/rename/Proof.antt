@@ -6,7 +6,7 @@ use Rattle.log.specs.Stored.{readLog}
 use Rattle.record_writer.specs.Code.Writer.{displacedBy}
 use Rattle.session.specs.Class
 use Rattle.session.specs.Call
-use Rattle.session.specs.Call.{geometry, buffers}
+use Rattle.session.specs.Call.{geometry, buffers, issuer}
 use Rattle.session_admission.specs.Laws.Admitted.{admitted}
 use Rattle.session_change.specs.Laws.Change.{lent-refuses, change-refuses, change-accepted, change-own}
 use Rattle.session_change.specs.Laws.Issued.{issuing-room, issuing-able, issued-outcome}
@@ -32,7 +32,7 @@ returns c =
     let y = c .before .before in
     let start = y .before .before .before .before .before .before .before .before in
     let a = start .args in
-    lent-refuses (geometry (a .n) (a .b) (a .m)) (a .program) (Class.rename (a .parent) (a .name .now) (a .second-parent) (a .second-name .now))
+    lent-refuses (geometry (a .n) (a .b) (a .m)) (issuer (a .program)) (Class.rename (a .parent) (a .name .now) (a .second-parent) (a .second-name .now))
     (buffers (a .server .now) (a .view .now) (a .log .now)) (y .admit .result) (y .admit .ensures) (c .before .if1 .taken) (c .refused .result)
     (c .refused .ensures)
 
@@ -69,7 +69,7 @@ returns-2 c =
     let start = y .before .before .before .before .before .before .before .before in
     let a = start .args in
     let h = admitted (a .n) (a .b) (a .m) (a .server .now) (a .view .now) (a .log .now) (sym (y .admit .ensures) ∙ at-if1 .if1 .left) in
-    let ch = rename-change (a .n) (a .b) (a .m) (a .program) (a .server .now) (a .view .now) (a .log .now) h (a .parent) (a .name .now) (a .second-parent)
+    let ch = rename-change (a .n) (a .b) (a .m) (issuer (a .program)) (a .server .now) (a .view .now) (a .log .now) h (a .parent) (a .name .now) (a .second-parent)
     (a .second-name .now) (x .rename-refusal .result .refused) (x .rename-refusal .result .object) (x .rename-refusal .result .displaced) (x .rename-refusal .ensures) in
     change-refuses ch (k .change-refusal .result) (k .change-refusal .ensures) (c .before .if2 .taken) (c .refused2 .result) (c .refused2 .ensures)
 
@@ -83,12 +83,12 @@ issue-rename-requires c κs =
     let start = y .before .before .before .before .before .before .before .before in
     let a = start .args in
     let h = admitted (a .n) (a .b) (a .m) (a .server .now) (a .view .now) (a .log .now) (sym (y .admit .ensures) ∙ at-if1 .if1 .left) in
-    let ch = rename-change (a .n) (a .b) (a .m) (a .program) (a .server .now) (a .view .now) (a .log .now) h (a .parent) (a .name .now) (a .second-parent)
+    let ch = rename-change (a .n) (a .b) (a .m) (issuer (a .program)) (a .server .now) (a .view .now) (a .log .now) h (a .parent) (a .name .now) (a .second-parent)
     (a .second-name .now) (x .rename-refusal .result .refused) (x .rename-refusal .result .object) (x .rename-refusal .result .displaced) (x .rename-refusal .ensures) in
     let own = change-own ch (k .change-refusal .result) (k .change-refusal .ensures) (at-if2 .if2 .left) in
     let is = x .rename-refusal .ensures .found own in
     let gone = x .rename-refusal .ensures .displaces own in
-    let i = rename-issuing (a .n) (a .b) (a .m) (a .program) (a .server .now) (a .view .now) (a .log .now) h (a .parent) (a .name .now) (a .second-parent)
+    let i = rename-issuing (a .n) (a .b) (a .m) (issuer (a .program)) (a .server .now) (a .view .now) (a .log .now) h (a .parent) (a .name .now) (a .second-parent)
     (a .second-name .now) (x .rename-refusal .result .object) (x .rename-refusal .result .displaced) is gone
     (change-accepted ch (k .change-refusal .result) (k .change-refusal .ensures) (at-if2 .if2 .left)) in
     let r = rename-record (readLog (a .m) (a .log .now) .head .next) (a .program) (x .rename-refusal .result .object) (a .parent) (a .second-parent)
@@ -115,7 +115,7 @@ returns-3 c =
     let start = y .before .before .before .before .before .before .before .before in
     let a = start .args in
     let h = admitted (a .n) (a .b) (a .m) (a .server .now) (a .view .now) (a .log .now) (sym (y .admit .ensures) ∙ at-if1 .if1 .left) in
-    let ch = rename-change (a .n) (a .b) (a .m) (a .program) (a .server .now) (a .view .now) (a .log .now) h (a .parent) (a .name .now) (a .second-parent)
+    let ch = rename-change (a .n) (a .b) (a .m) (issuer (a .program)) (a .server .now) (a .view .now) (a .log .now) h (a .parent) (a .name .now) (a .second-parent)
     (a .second-name .now) (x .rename-refusal .result .refused) (x .rename-refusal .result .object) (x .rename-refusal .result .displaced) (x .rename-refusal .ensures) in
     let own = change-own ch (k .change-refusal .result) (k .change-refusal .ensures) (at-if2 .if2 .left) in
     let is = x .rename-refusal .ensures .found own in
@@ -124,7 +124,7 @@ returns-3 c =
     (x .rename-refusal .result .displaced) (a .name .now) (a .second-name .now) in
     issued-outcome ch (k .change-refusal .result) (k .change-refusal .ensures) (at-if2 .if2 .left)
     (Operation.rename (x .rename-refusal .result .object) (a .parent) (a .second-parent) (displacedBy (x .rename-refusal .result .displaced)) (a .name .now) (a .second-name .now))
-    (rename-issues (a .n) (a .b) (a .m) (a .program) (a .server .now) (a .view .now) (a .log .now) h (a .parent) (a .name .now) (a .second-parent) (a .second-name .now) (x .rename-refusal .result .object) (x .rename-refusal .result .displaced) is gone) _ r
+    (rename-issues (a .n) (a .b) (a .m) (issuer (a .program)) (a .server .now) (a .view .now) (a .log .now) h (a .parent) (a .name .now) (a .second-parent) (a .second-name .now) (x .rename-refusal .result .object) (x .rename-refusal .result .displaced) is gone) _ r
     (u .issue-rename .result)
     (u .issue-rename .last .0) (u .issue-rename .last .1 .0) (u .issue-rename .ensures) (c .of .result) (c .of .ensures)
 

@@ -11,7 +11,7 @@ use Rattle.record_writer.specs.Code.Writer.{displacedBy, renameRecord}
 use Rattle.session.specs.Model.{toldOf}
 use Rattle.session.specs.Class
 use Rattle.session.specs.Call
-use Rattle.session.specs.Call.{Call, geometry}
+use Rattle.session.specs.Call.{Issuer, Call, geometry}
 use Rattle.session.specs.Issue.{issues, onFound, displaced}
 use Rattle.session.specs.Step.{answerOf}
 use Rattle.session.specs.Laws.Edit.{rename-accepted}
@@ -20,9 +20,9 @@ use Rattle.session_admission.specs.Code.Admitted.{modelIn, Admitted}
 use Rattle.session_change.specs.Code.Change.{ChangeBy}
 use Rattle.session_rename.specs.Code.Rename.{Moves}
 
-module _ (n b m p : ℕ) (s v l : List ℕ) (h : Admitted n b m s v l) where
+module _ (n b m : ℕ) (i : Issuer) (s v l : List ℕ) (h : Admitted n b m s v l) where
   pub rename-change : (d : ℕ) (name : List ℕ) (e : ℕ) (second : List ℕ) (own o t : ℕ) → Moves (readVolume n b v) d name e second own o t
-      → ChangeBy n b m p s v l (Class.rename d name e second) own 1
+      → ChangeBy n b m i s v l (Class.rename d name e second) own 1
   unfolding answerOf
   rename-change d name e second own o t f =
       record {
@@ -34,20 +34,20 @@ module _ (n b m p : ℕ) (s v l : List ℕ) (h : Admitted n b m s v l) where
 
   module _ (d : ℕ) (name : List ℕ) (e : ℕ) (second : List ℕ) (o t : ℕ) (is : search (readVolume n b v) d name ≡ some o)
       (gone : displacedBy t ≡ displaced o (search (readVolume n b v) e second)) where
-    pub rename-issues : issues (toldOf (modelIn n b m s v l)) (Call.rename p d name e second) ≡ Operation.rename o d e (displacedBy t) name second ∷ []
+    pub rename-issues : issues (toldOf (modelIn n b m s v l)) (Call.rename i d name e second) ≡ Operation.rename o d e (displacedBy t) name second ∷ []
     rename-issues =
         ap (λ (w : Option ℕ). onFound w (λ i. Operation.rename i d e (displaced i (search (readVolume n b v) e second)) name second)) is
         ∙ ap (λ (w : Option ℕ). Operation.rename o d e w name second ∷ []) (sym gone)
 
-    pub rename-issuing : answerOf (geometry n b m) (Call.rename p d name e second) (modelIn n b m s v l) .returned ≡ 0
-        → Issuing (geometry n b m) (modelIn n b m s v l) p (Operation.rename o d e (displacedBy t) name second ∷ [])
+    pub rename-issuing : answerOf (geometry n b m) (Call.rename i d name e second) (modelIn n b m s v l) .returned ≡ 0
+        → Issuing (geometry n b m) (modelIn n b m s v l) (i .program) (Operation.rename o d e (displacedBy t) name second ∷ [])
     unfolding answerOf
     rename-issuing z =
-        let a = rename-accepted (geometry n b m) (modelIn n b m s v l) (h .holds .sound) p d name e second z in
+        let a = rename-accepted (geometry n b m) (modelIn n b m s v l) (h .holds .sound) i d name e second z in
         let other = a .1 in
         let same : a .0 ≡ o = cc in
-        subst (λ (w : Option ℕ). Issuing (geometry n b m) (modelIn n b m s v l) p (Operation.rename o d e w name second ∷ [])) (sym gone)
-        (subst (λ (i : ℕ). Issuing (geometry n b m) (modelIn n b m s v l) p (Operation.rename i d e (displaced i (search (readVolume n b v) e second)) name second ∷ [])) same (a .2))
+        subst (λ (w : Option ℕ). Issuing (geometry n b m) (modelIn n b m s v l) (i .program) (Operation.rename o d e w name second ∷ [])) (sym gone)
+        (subst (λ (w : ℕ). Issuing (geometry n b m) (modelIn n b m s v l) (i .program) (Operation.rename w d e (displaced w (search (readVolume n b v) e second)) name second ∷ [])) same (a .2))
 
 -- The record that is written is that of this operation.
 pub rename-record : (q p o d e t : ℕ) (name second : List ℕ) → renameRecord q p o d e t name second ≡ recordOf q p (Operation.rename o d e (displacedBy t) name second)

@@ -6,7 +6,7 @@ use lib.ListN.{length}
 use Rattle.volume_tree.specs.Stored.{readVolume}
 use Rattle.log.specs.Stored.{readLog}
 use Rattle.session.specs.Class
-use Rattle.session.specs.Call.{geometry}
+use Rattle.session.specs.Call.{Issuer, geometry}
 use Rattle.session.specs.Call
 use Rattle.session.specs.Issue.{writes}
 use Rattle.session.specs.Edit.{writeRows}
@@ -17,10 +17,10 @@ use Rattle.session_admission.specs.Code.Admitted.{modelIn, Admitted}
 use Rattle.session_change.specs.Code.Change.{changeNumber, ChangeBy, MayIssue}
 use Rattle.session_change.specs.Laws.Change.{change-accepted}
 
-module _ {n b m : ℕ} {s v l : List ℕ} (h : Admitted n b m s v l) (p : ℕ) where
+module _ {n b m : ℕ} {s v l : List ℕ} (h : Admitted n b m s v l) (i : Issuer) where
   module _ (o f : ℕ) (d : List ℕ) (own count : ℕ) (number : own ≡ firstNumber (writeRows b (readVolume n b v) o f d))
       (many : count ≡ length (writes (readVolume n b v) o f d)) where
-    pub write-change : ChangeBy n b m p s v l (Class.write o f d) own count
+    pub write-change : ChangeBy n b m i s v l (Class.write o f d) own count
     unfolding answerOf
     write-change =
         record {
@@ -31,16 +31,16 @@ module _ {n b m : ℕ} {s v l : List ℕ} (h : Admitted n b m s v l) (p : ℕ) w
         }
 
     -- An accepted write has some bytes, and its operations may be issued.
-    module _ (k : ℕ) (e : k ≡ changeNumber (geometry n b m) (readLog m l) p own count) (z : k ≡ 0) where
+    module _ (k : ℕ) (e : k ≡ changeNumber (geometry n b m) (readLog m l) (i .program) own count) (z : k ≡ 0) where
       pub write-bytes : 1 ≤ length d
       unfolding answerOf
-      write-bytes = write-some (geometry n b m) (modelIn n b m s v l) (h .holds .sound) p o f d (change-accepted write-change k e z)
+      write-bytes = write-some (geometry n b m) (modelIn n b m s v l) (h .holds .sound) i o f d (change-accepted write-change k e z)
 
-      pub write-issuing : MayIssue n b m p v l (writes (readVolume n b v) o f d)
+      pub write-issuing : MayIssue n b m (i .program) v l (writes (readVolume n b v) o f d)
       unfolding answerOf
       write-issuing =
           record {
             server = s;
             held = h;
-            issuing = write-accepted (geometry n b m) (modelIn n b m s v l) (h .holds .sound) p o f d (change-accepted write-change k e z);
+            issuing = write-accepted (geometry n b m) (modelIn n b m s v l) (h .holds .sound) i o f d (change-accepted write-change k e z);
           }

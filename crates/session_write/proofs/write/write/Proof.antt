@@ -7,7 +7,7 @@ use Rattle.volume_tree.specs.Volume.{Volume}
 use Rattle.volume_tree.specs.Stored.{readVolume}
 use Rattle.log.specs.Stored.{readLog}
 use Rattle.session.specs.Class
-use Rattle.session.specs.Call.{geometry, buffers}
+use Rattle.session.specs.Call.{geometry, buffers, issuer}
 use Rattle.session.specs.Call
 use Rattle.session.specs.Issue.{writesAt, writes}
 use Rattle.session.specs.Laws.Write.{writes-few}
@@ -50,11 +50,11 @@ counted c =
     ∙ ap (λ (len : ℕ). length (writesAt len (a .object) (a .offset) (a .«data» .now))) (c .before .before .before .length-of .ensures)
 
 -- the call as a change, with the number that its own table gives
-change : (c : tie.After-change-refusal) → let a = start (lent c) .args in ChangeBy (a .n) (a .b) (a .m) (a .program) (a .server .now) (a .view .now) (a .log .now) (Class.write (a .object) (a .offset) (a .«data» .now)) (c .before .before .before .before .before .write-refusal .result) (c .before .before .operations .result)
+change : (c : tie.After-change-refusal) → let a = start (lent c) .args in ChangeBy (a .n) (a .b) (a .m) (issuer (a .program)) (a .server .now) (a .view .now) (a .log .now) (Class.write (a .object) (a .offset) (a .«data» .now)) (c .before .before .before .before .before .write-refusal .result) (c .before .before .operations .result)
 change c =
     let a = start (lent c) .args in
     let w = c .before .before .before .before .before .write-refusal in
-    write-change (held (lent c)) (a .program) (a .object) (a .offset) (a .«data» .now) (w .result) (c .before .before .operations .result) (w .ensures) (counted c)
+    write-change (held (lent c)) (issuer (a .program)) (a .object) (a .offset) (a .«data» .now) (w .result) (c .before .before .operations .result) (w .ensures) (counted c)
 
 admit-requires : tie.Need-admit-requires
 admit-requires c κs = search needs
@@ -73,7 +73,7 @@ returns c =
     let d = c .before .before in
     let start = d .before .before .before .before .before .before .before in
     let a = start .args in
-    lent-refuses (geometry (a .n) (a .b) (a .m)) (a .program) (Class.write (a .object) (a .offset) (a .«data» .now)) (buffers (a .server .now) (a .view .now) (a .log .now))
+    lent-refuses (geometry (a .n) (a .b) (a .m)) (issuer (a .program)) (Class.write (a .object) (a .offset) (a .«data» .now)) (buffers (a .server .now) (a .view .now) (a .log .now))
     (d .admit .result) (d .admit .ensures) (c .before .if1 .taken) (c .refused .result) (c .refused .ensures)
 
 write-refusal-requires : tie.Need-write-refusal-requires
@@ -117,10 +117,10 @@ issue-writes-requires c κs =
     let w = k .before .before .before .before .before .write-refusal in
     let n = k .before .before .operations .result in
     let r = k .change-refusal in (
-      write-bytes h (a .program) (a .object) (a .offset) (a .«data» .now) (w .result) n (w .ensures) (counted k) (r .result) (r .ensures) (e .if2 .left),
+      write-bytes h (issuer (a .program)) (a .object) (a .offset) (a .«data» .now) (w .result) n (w .ensures) (counted k) (r .result) (r .ensures) (e .if2 .left),
       subst (λ (len : ℕ). MayIssue (a .n) (a .b) (a .m) (a .program) (a .view .now) (a .log .now) (writesAt len (a .object) (a .offset) (a .«data» .now)))
           (sym (k .before .before .before .length-of .ensures))
-          (write-issuing h (a .program) (a .object) (a .offset) (a .«data» .now) (w .result) n (w .ensures) (counted k) (r .result) (r .ensures) (e .if2 .left)),
+          (write-issuing h (issuer (a .program)) (a .object) (a .offset) (a .«data» .now) (w .result) n (w .ensures) (counted k) (r .result) (r .ensures) (e .if2 .left)),
     )
 
 of-requires : tie.Need-of-requires
