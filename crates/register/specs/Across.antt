@@ -7,7 +7,7 @@ use lib.ListN.{length, take, drop}
 use Rattle.record.specs.Operation.{Operation, recordOf}
 use Rattle.volume_entry.specs.Entry.{contentsOf}
 use Rattle.volume_tree.specs.Volume.{entryAt}
-use Rattle.session.specs.Call.{Issuer, Geometry, write}
+use Rattle.session.specs.Call.{Geometry, Issuer, write}
 use Rattle.register.specs.Register.{Register, Acknowledged, waiting, isWaiting, isLost, viewOf}
 use Rattle.register.specs.History.{Is}
 use Rattle.register.specs.Run.{State, Moment, Run, next, run, instead, CouldHaveBeenSent}

@@ -10,7 +10,7 @@ use Rattle.record.specs.Operation.{Operation, Record, recordOf}
 use Rattle.volume_entry.specs.Entry.{nameOf}
 use Rattle.volume_tree.specs.Volume.{Volume, entryAt, isChild, search}
 use Rattle.volume_apply.specs.Spelling.{Respelled}
-use Rattle.session.specs.Call.{Issuer, Geometry, rename}
+use Rattle.session.specs.Call.{Geometry, Issuer, rename}
 use Rattle.session.specs.Model.{Model}
 use Rattle.session.specs.Step.{decodeModel}
 use Rattle.register.specs.Replay.{replay}
