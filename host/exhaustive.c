@@ -1,19 +1,17 @@
 /* Bounded and exhaustive: all sequences of up to 4 operations from a small alphabet on 3 objects, every closed set of them sent
- * by pushes in every order, then a cut; and after each closed set the sending call at each time when more is due. A write across
- * the end of a file is two operations of a sequence. Names come in several spellings, and each object is also given to the wrong
- * one of the two removals. Run it with ./exhaustive. What buffers, answers, marks, losses and due times have to be is reckoned by
- * the host alone, in exhaustive_parts/trial.c. It stops with 1 at the first difference. */
+ * by pushes in every order, then a cut. A write across the end of a file is two operations of a sequence. Names come in several
+ * spellings, and each object is also given to the wrong one of the two removals. Run it with ./exhaustive. What buffers, answers,
+ * marks and losses have to be is reckoned by the host alone, in exhaustive_parts/trial.c. It stops with 1 at the first
+ * difference. */
 #include <string.h>
 #include <time.h>
 #include "removal.h"
 #include "spellings.h"
 
-/* The clock rises; it runs back, and counts as the first; it comes to the last due time there is. */
 static const struct assignment assignments[] = {
-    {"0, 1, 2, 3; 5 asks before each cut; clocks 1, 2, 3, 4", 5, {0, 1, 2, 3, 4}, BEFORE_CUT, {1, 2, 3, 4, 5}},
-    {"0, 1, 0, 1; 5 asks after the last call; clocks 9, 7, 5, 3", 2, {0, 1, 0, 1, 0}, AFTER_LAST, {9, 7, 5, 3, 1}},
-    {"0, 0, 1, 1; 5 asks after the first call; clocks to 4294967294", 2, {0, 0, 1, 1, 0}, AFTER_FIRST,
-     {WB_NEVER - 10, WB_NEVER - 7, WB_NEVER - 4, WB_NEVER - 1, WB_NEVER}},
+    {"0, 1, 2, 3; 5 asks before each cut", 5, {0, 1, 2, 3, 4}, BEFORE_CUT},
+    {"0, 1, 0, 1; 5 asks after the last call", 2, {0, 1, 0, 1, 0}, AFTER_LAST},
+    {"0, 0, 1, 1; 5 asks after the first call", 2, {0, 0, 1, 1, 0}, AFTER_FIRST},
 };
 enum { ASSIGNMENTS = sizeof assignments / sizeof assignments[0] };
 
@@ -101,7 +99,7 @@ static void check_recovery(struct buffers *lent, unsigned sent, const uint32_t d
     check_lost(lent, left.volume, 0, 0);
 }
 
-/* ---- A cut ---- */
+/* ---- Pushes, then a cut ---- */
 
 /* The asker asks for the status of object 1. If the object is used, it depends on what leads to it. */
 static void ask(struct buffers *lent, uint32_t dependents[MOST])
@@ -125,76 +123,15 @@ static void try_cut(const struct buffers *lent, unsigned sent)
         ask(&copy, dependents);
     answered("cut", wb_cut(LENT(&copy)).returned, WB_ACCEPTED);
     check_recovery(&copy, sent, dependents);
+    counts.cuts++;
 }
-
-/* ---- Rows and the sending call ---- */
-
-static uint64_t size_of(unsigned set) { return set ? (set & 1) + size_of(set >> 1) : 0; }
-
-/* Loads the rows for the next operation. */
-static void load_rows(struct buffers *lent)
-{
-    uint8_t bytes[WB_ROWS * WB_ROW_BYTES];
-    const uint64_t length = put_rows(rows_for(now.issued), bytes);
-    answered("loading rows", wb_load_rows(LENT(lent), bytes, length).returned, WB_ACCEPTED);
-}
-
-/* Of what a sending call sends: what was not due itself, and what goes while an earlier one waits on. */
-static void count_sends(unsigned sends, unsigned sent, uint64_t time)
-{
-    uint64_t i;
-    for (i = 0; i < now.issued; i++) {
-        counts.along += in(sends, i) && stage()->due[i] > time;
-        counts.overtaking += in(sends, i) && ~(sent | sends) & ((1u << i) - 1);
-    }
-    counts.timed++;
-    counts.timed_sends += size_of(sends);
-}
-
-/* The set is sent. The sending call sends of the others what is due, with all that precedes it. A cut after it is judged as any
- * other: tried where nothing was sent before, and the asker asks between the two. */
-static void send_due(const struct buffers *lent, unsigned sent, uint32_t clock)
-{
-    const uint64_t time = told_time(stage()->time, clock);
-    const unsigned sends = due_at(time) & ~sent;
-    const int cuts = sent == 0 && now.assignment->asks == BEFORE_CUT;
-    struct buffers copy = *lent;
-    struct wb_value got;
-    now.sending = 1;
-    now.clock = clock;
-    got = wb_send_due(LENT(&copy), clock);
-    answered("the sending call", got.returned, WB_ACCEPTED);
-    equal("the sends of the sending call", got.value, size_of(sends));
-    check_waiting(&copy, sent | sends, stage()->dependents);
-    if (cuts)
-        try_cut(&copy, sends);
-    now.sending = 0;
-    count_sends(sends, sent, time);
-    counts.timed_cuts += (uint64_t)cuts;
-}
-
-/* With a clock that runs back, and at the due time of each operation that waits, each time once. */
-static void try_sending(const struct buffers *lent, unsigned sent)
-{
-    uint64_t i, j;
-    send_due(lent, sent, 0);
-    for (i = 0; i < now.issued; i++) {
-        for (j = 0; j < i && (in(sent, j) || stage()->due[j] != stage()->due[i]); j++)
-            ;
-        if (j == i && !in(sent, i))
-            send_due(lent, sent, (uint32_t)stage()->due[i]);
-    }
-}
-
-/* ---- Pushes, then a cut ---- */
 
 static uint64_t answer_to_push(uint64_t i, unsigned sent)
 {
     return in(sent, i) ? WB_NONE : now.preceding[i] & ~sent ? WB_NOT_FIRST : WB_ACCEPTED;
 }
 
-/* The set is sent. Tries a cut there, for each set once the sending call, and a push of each operation; where it is accepted, goes
- * on from there. */
+/* The set is sent. Tries a cut there, and a push of each operation; where it is accepted, goes on from there. */
 static void push_on(const struct buffers *lent, unsigned sent, uint8_t *reached)
 {
     static struct buffers copies[MOST + 1];
@@ -202,9 +139,6 @@ static void push_on(const struct buffers *lent, unsigned sent, uint8_t *reached)
     uint64_t i;
     check_waiting(lent, sent, stage()->dependents);
     try_cut(lent, sent);
-    counts.cuts++;
-    if (!reached[sent])
-        try_sending(lent, sent);
     reached[sent] = 1;
     counts.orders++;
     counts.whole += sent == all();
@@ -234,6 +168,8 @@ static void try_pushes(const struct buffers *lent)
 }
 
 /* ---- Fsync ---- */
+
+static uint64_t size_of(unsigned set) { return set ? (set & 1) + size_of(set >> 1) : 0; }
 
 static unsigned without_last(unsigned set)
 {
@@ -285,29 +221,29 @@ static void try_fsyncs(void)
 /* ---- Sequences ---- */
 
 /* A remove goes to the call for the kind that its object has in the view. */
-static struct wb_value call(struct buffers *lent, const struct operation *given, uint32_t clock)
+static struct wb_value call(struct buffers *lent, const struct operation *given)
 {
     const struct volume view = volume_of(stage()->view);
     uint8_t list[2 * WB_LIST_OBJECTS] = {0};
     uint64_t i;
     switch (given->kind) {
     case CREATE_FILE:
-        return wb_create(LENT(lent), given->program, given->parent, given->name, given->name_length, given->object, clock);
+        return wb_create(LENT(lent), given->program, given->parent, given->name, given->name_length, given->object);
     case MAKE_DIRECTORY:
-        return wb_mkdir(LENT(lent), given->program, given->parent, given->name, given->name_length, given->object, clock);
+        return wb_mkdir(LENT(lent), given->program, given->parent, given->name, given->name_length, given->object);
     case REMOVE:
-        return call_removal(lent, given, kind_at(&view, given->object), clock);
+        return call_removal(lent, given, kind_at(&view, given->object));
     case RENAME:
         return wb_rename(LENT(lent), given->program, given->parent, given->name, given->name_length,
-                         given->second_parent, given->second_name, given->second_name_length, clock);
+                         given->second_parent, given->second_name, given->second_name_length);
     case SET_LENGTH:
-        return wb_setlen(LENT(lent), given->program, given->object, given->offset, clock);
+        return wb_setlen(LENT(lent), given->program, given->object, given->offset);
     case FORDER:
         for (i = 0; i < given->list_length; i++)
             list[2 * i] = (uint8_t)given->list[i];
-        return wb_forder(LENT(lent), given->program, list, 2 * given->list_length, clock);
+        return wb_forder(LENT(lent), given->program, list, 2 * given->list_length);
     default:
-        return wb_write(LENT(lent), given->program, given->object, given->offset, given->data, given->data_length, clock);
+        return wb_write(LENT(lent), given->program, given->object, given->offset, given->data, given->data_length);
     }
 }
 
@@ -324,8 +260,8 @@ static struct operation ask_for(const struct letter *letter)
     return whole;
 }
 
-/* The next of the operations asked for is issued under these rows: what the host reckons at a stage after it. */
-static void note_issued(struct stage *next, const struct rows *rows)
+/* The next of the operations asked for is issued: what the host reckons at a stage after it. */
+static void note_issued(struct stage *next)
 {
     const struct operation *operation = &now.operations[now.issued];
     struct volume view = volume_of(next->view);
@@ -334,7 +270,6 @@ static void note_issued(struct stage *next, const struct rows *rows)
     next->dependents[now.issued] = UINT32_C(1) << operation->program;
     count_spellings(&view, operation);
     equal("whether an accepted operation applies to the view", (uint64_t)replay(&view, operation), 1);
-    next->due[now.issued] = due_time(rows, next->time, length_after(&view, operation));
     now.issued++;
     now.asked--;
     counts.kinds[operation->kind]++;
@@ -366,24 +301,20 @@ static uint64_t issue(const struct letter *letter)
 {
     const struct operation whole = ask_for(letter), *first = &now.operations[now.issued];
     const struct volume view = volume_of(stage()->view);
-    const struct rows *rows = rows_for(now.issued);
-    const uint32_t clock = now.assignment->clocks[now.issued];
     const uint64_t count = now.asked;
     const int fits = now.issued + count <= now.most, sound = acceptable(&view, first);
     struct stage *next = stage() + count;
     struct wb_value got;
     *next = *stage();
-    got = call(&next->lent, &whole, clock);
+    got = call(&next->lent, &whole);
     if (!sound || !fits) {
         check_refused(got, &next->lent, sound);
         return 0;
     }
     answered("the call", got.returned, WB_ACCEPTED);
     equal("the sequence number given", got.value, first->sequence);
-    next->time = told_time(next->time, clock);
     while (now.asked > 0)
-        note_issued(next, rows);
-    load_rows(&next->lent);
+        note_issued(next);
     check_waiting(&next->lent, 0, next->dependents);
     counts.across += count == 2;
     return count;
@@ -448,13 +379,12 @@ static void prepare(void)
     for (i = 0; i < now.start->count; i++) {
         spell(&now.start->letters[i], &view, MOST + 1, &operation);
         replay(&view, &operation);
-        answered("a call for the starting volume", call(lent, &operation, WB_NEVER).returned, WB_ACCEPTED);
+        answered("a call for the starting volume", call(lent, &operation).returned, WB_ACCEPTED);
         answered("a push for the starting volume", wb_push(LENT(lent), i + 1).returned, WB_ACCEPTED);
     }
     same("the starting volume", lent->server, view.bytes, VOLUME);
     answered("mount", wb_mount(LENT(lent)).returned, WB_ACCEPTED);
     try_twice(lent);
-    load_rows(lent);
 }
 
 static void print_count(uint64_t count, const char *text) { printf("%12lu %s\n", (unsigned long)count, text); }
@@ -498,11 +428,6 @@ static void print_counts(void)
     print_count(counts.cuts, "cuts after pushes");
     print_count(counts.fsyncs, "fsyncs");
     print_count(counts.links, "of them with too few sends");
-    print_count(counts.timed, "sending calls, after each closed set");
-    print_count(counts.timed_sends, "operations sent by them");
-    print_count(counts.along, "of these before they were due, since they preceded one that was");
-    print_count(counts.overtaking, "of these while one that was issued earlier went on waiting");
-    print_count(counts.timed_cuts, "cuts after a sending call");
     print_count(counts.both, "writes across the end sent whole when the link broke");
     print_count(counts.overwrite_alone, "with the overwrite sent and the append lost; none the other way round");
     print_count(counts.neither, "lost whole");

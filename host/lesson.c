@@ -1,13 +1,10 @@
-/* A lesson on a write-behind volume: a class of programs saves its work, teachers say how long it may wait, a link carries it to
- * the server and breaks twice. What the library answers is compared all the time with what the host reckons on its own; see
- * --help. */
+/* A lesson on a write-behind volume: a class of programs saves its work, a link carries it to the server and breaks twice. What
+ * the library answers is compared all the time with what the host reckons on its own; see --help. */
 #include "broken.h"
 #include "compare.h"
 #include "graph.h"
 #include "progress.h"
 #include "summary.h"
-#include "teacher.h"
-#include "waits.h"
 
 #define BREAKS 2
 
@@ -16,7 +13,6 @@ struct lesson {
     struct host host;
     struct class class;
     struct link link;
-    struct teacher teacher;
     FILE *graph;
     uint64_t broken;             /* how often the link broke */
     struct burst bursts[BREAKS]; /* what waited then */
@@ -35,17 +31,23 @@ static void see_to_floor(struct host *host)
 }
 
 /* The link breaks first after a third of the operations, then after two thirds. */
-static uint64_t break_after(const struct lesson *lesson, uint64_t which)
+static uint64_t due(const struct lesson *lesson, uint64_t which)
 {
     uint64_t part = lesson->options.operations * which / (BREAKS + 1);
     return part < which ? which : part;
 }
 
-/* Breaks the link if it is time and it can break so. */
+static int soon_broken(const struct lesson *lesson)
+{
+    return lesson->broken < BREAKS
+        && lesson->host.issued_count + lesson->options.operations / 12 + 8 >= due(lesson, lesson->broken + 1);
+}
+
+/* Breaks the link if it is due and can break so. */
 static void see_to_link(struct lesson *lesson)
 {
     struct burst *burst = &lesson->bursts[lesson->broken];
-    if (lesson->broken == BREAKS || lesson->host.issued_count < break_after(lesson, lesson->broken + 1))
+    if (lesson->broken == BREAKS || lesson->host.issued_count < due(lesson, lesson->broken + 1))
         return;
     clear_progress();
     compare_view(&lesson->host);
@@ -83,8 +85,8 @@ static void begin(struct lesson *lesson, int count, char **words)
     if (lesson->options.server)
         printf("The server volume is %s, %s.\n", lesson->options.server, lesson->host.went_on ? "as it was left" : "a new one");
     come_in(&lesson->host, &lesson->class, operations);
-    printf("The pupils come in at %s and look for their folders, %lu in all. Missing and made: %lu. An fsync of the root sends them.\n",
-           clock_text(lesson->host.clock), (unsigned long)lesson->class.looked, (unsigned long)lesson->class.made);
+    printf("The pupils come in and look for their folders, %lu in all. Missing and made: %lu. An fsync of the root sends them.\n",
+           (unsigned long)lesson->class.looked, (unsigned long)lesson->class.made);
     do_fsync(&lesson->host, 0, 0, lesson->host.m);
 }
 
@@ -96,8 +98,7 @@ static void work(struct lesson *lesson)
         if (take_turn(host, &lesson->class) == WB_LOG_FULL)
             make_room(host);
         see_to_link(lesson);
-        see_to_rows(host, &lesson->teacher, lesson->options.operations);
-        carry(host, &lesson->link);
+        carry(host, &lesson->link, soon_broken(lesson));
         see_to_floor(host);
         tell_progress(host, lesson->options.operations);
     }
@@ -106,17 +107,12 @@ static void work(struct lesson *lesson)
 static void end(struct lesson *lesson)
 {
     struct host *host = &lesson->host;
-    uint64_t waited = host->waiting_count, sent;
     clear_progress();
     if (lesson->broken < BREAKS)
         printf("\nBroken link 2 could not happen: there were too few operations, and no object ever needed two sends.\n");
-    compare_log(host);
-    printf("\nAfter operation %lu, at %s, %lu wait%s.", (unsigned long)host->issued_count, clock_text(host->clock),
-           (unsigned long)waited, waited == 1 ? "s" : "");
-    sent = carry_all(host);
-    printf(" The last due time is %s; the timer sends %lu until then, %lu %s pushed.\n", clock_text(host->clock), (unsigned long)sent,
-           (unsigned long)(waited - sent), waited - sent == 1 ? "is" : "are");
-    compare_log(host);
+    printf("\nAfter operation %lu: the link carries all that waits, %lu operation%s.\n", (unsigned long)host->issued_count,
+           (unsigned long)host->waiting_count, plural(host->waiting_count));
+    carry_all(host);
     compare_server(host);
     compare_view(host);
     printf("The server volume equals the replay of the %lu operation%s sent: %lu bytes compared.\n",
@@ -125,7 +121,6 @@ static void end(struct lesson *lesson)
     if (lesson->graph)
         draw_graph(lesson->graph, lesson->options.graph, host, lesson->bursts, lesson->broken);
     see_to_floor(host);
-    print_waits(host);
     print_summary(host, &lesson->class);
     close_host(host);
 }

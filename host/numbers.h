@@ -5,13 +5,11 @@
 
 #include "writebehind.h"
 
-/* The places of fields, each counted from the start of what has them (document 01, "Geometry and stored form" and "Loss record";
- * document 02, K5): of an entry of a volume, of a log, of a slot, of a row, and of a loss record, whose own fields come behind its
- * kind. */
+/* The places of fields, each counted from the start of what has them (document 01, "Geometry and stored form" and "Loss record"):
+ * of an entry of a volume, of a log, of a slot, and of a loss record, whose own fields come behind its kind. */
 enum { KIND_AT = 0, NAME_LENGTH_AT = 1, PARENT_AT = 2, NAME_AT = 4, LENGTH_AT = 64, DATA_AT = WB_ENTRY_HEAD_BYTES };
-enum { NEXT_AT = 0, MARKS_AT = 4, TIME_AT = 8, ROW_COUNT_AT = 12, ROWS_AT = 16 };
-enum { STATE_AT = 0, DEPENDENTS_AT = 4, RECORD_AT = 8, DUE_AT = RECORD_AT + WB_RECORD_BYTES };
-enum { SHORTEST_AT = 0, LONGEST_AT = 4, SECONDS_AT = 8 };
+enum { NEXT_AT = 0, MARKS_AT = 4 };
+enum { STATE_AT = 0, DEPENDENTS_AT = 4, RECORD_AT = 8 };
 enum { RECORD_MAP_AT = 0, RECORD_SEQUENCE_AT = 2, RECORD_PROGRAM_AT = 6, RECORD_KIND_AT = 7, RECORD_FIELDS_AT = 8 };
 
 /* The states of a slot. */

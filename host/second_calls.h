@@ -24,8 +24,6 @@ __typeof__(wb_forder) second_forder;
 __typeof__(wb_push) second_push;
 __typeof__(wb_fsync) second_fsync;
 __typeof__(wb_cut) second_cut;
-__typeof__(wb_rows) second_rows;
-__typeof__(wb_due) second_due;
 __typeof__(wb_take) second_take;
 __typeof__(wb_renew) second_renew;
 __typeof__(wb_record) second_record;

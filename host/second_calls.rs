@@ -101,33 +101,30 @@ entries! {
     second_read(program: u64, object: u64, offset: u64, buffer: *mut u8, buffer_length: u64) -> Value,
         |lent| value(second::read(lent, program, object, offset, bytes(buffer, buffer_length)));
 
-    second_create(program: u64, parent: u64, name: *const u8, name_length: u64, object: u64, clock: u32) -> Value,
-        |lent| value(second::create(lent, program, parent, bytes(name, name_length), object, clock));
-    second_mkdir(program: u64, parent: u64, name: *const u8, name_length: u64, object: u64, clock: u32) -> Value,
-        |lent| value(second::make_directory(lent, program, parent, bytes(name, name_length), object, clock));
-    second_remove_file(program: u64, parent: u64, name: *const u8, name_length: u64, clock: u32) -> Value,
-        |lent| value(second::remove_file(lent, program, parent, bytes(name, name_length), clock));
-    second_remove_directory(program: u64, parent: u64, name: *const u8, name_length: u64, clock: u32) -> Value,
-        |lent| value(second::remove_directory(lent, program, parent, bytes(name, name_length), clock));
+    second_create(program: u64, parent: u64, name: *const u8, name_length: u64, object: u64) -> Value,
+        |lent| value(second::create(lent, program, parent, bytes(name, name_length), object));
+    second_mkdir(program: u64, parent: u64, name: *const u8, name_length: u64, object: u64) -> Value,
+        |lent| value(second::make_directory(lent, program, parent, bytes(name, name_length), object));
+    second_remove_file(program: u64, parent: u64, name: *const u8, name_length: u64) -> Value,
+        |lent| value(second::remove_file(lent, program, parent, bytes(name, name_length)));
+    second_remove_directory(program: u64, parent: u64, name: *const u8, name_length: u64) -> Value,
+        |lent| value(second::remove_directory(lent, program, parent, bytes(name, name_length)));
     second_rename(program: u64, parent: u64, name: *const u8, name_length: u64,
-                  second_parent: u64, second_name: *const u8, second_name_length: u64, clock: u32) -> Value,
+                  second_parent: u64, second_name: *const u8, second_name_length: u64) -> Value,
         |lent| {
-            let (name, second_name) = (bytes(name, name_length), bytes(second_name, second_name_length));
-            value(second::rename(lent, program, (parent, name), (second_parent, second_name), clock))
+            let second_name = bytes(second_name, second_name_length);
+            value(second::rename(lent, program, (parent, bytes(name, name_length)), (second_parent, second_name)))
         };
-    second_write(program: u64, object: u64, offset: u64, data: *const u8, data_length: u64, clock: u32) -> Value,
-        |lent| value(second::write(lent, program, object, offset, bytes(data, data_length), clock));
-    second_setlen(program: u64, object: u64, length: u64, clock: u32) -> Value,
-        |lent| value(second::set_length(lent, program, object, length, clock));
-    second_forder(program: u64, list: *const u8, list_length: u64, clock: u32) -> Value,
-        |lent| value(second::forder(lent, program, bytes(list, list_length), clock));
+    second_write(program: u64, object: u64, offset: u64, data: *const u8, data_length: u64) -> Value,
+        |lent| value(second::write(lent, program, object, offset, bytes(data, data_length)));
+    second_setlen(program: u64, object: u64, length: u64) -> Value,
+        |lent| value(second::set_length(lent, program, object, length));
+    second_forder(program: u64, list: *const u8, list_length: u64) -> Value,
+        |lent| value(second::forder(lent, program, bytes(list, list_length)));
 
     second_push(sequence: u64) -> Code, |lent| code(second::push(lent, sequence));
     second_fsync(program: u64, object: u64, sends: u64) -> Value, |lent| sent(second::fsync(lent, program, object, sends));
     second_cut() -> Code, |lent| code(second::cut(lent));
-    second_rows(rows: *const u8, rows_length: u64) -> Code,
-        |lent| code(second::load_rows(lent, bytes(rows, rows_length)));
-    second_due(clock: u32) -> Value, |lent| sent(second::send_due(lent, clock));
 
     second_take(program: u64, buffer: *mut u8, buffer_length: u64) -> Value,
         |lent| value(second::take(lent, program, bytes(buffer, buffer_length)));
@@ -146,8 +143,8 @@ fn status(answer: Result<second::Stat, Refusal>) -> Status {
     }
 }
 
-/// Fsync and sending what is due have their sends with a refusal too.
-fn sent(answer: second::Sent) -> Value {
+/// Fsync has its sends with a refusal too.
+fn sent(answer: second::Fsync) -> Value {
     Value { returned: answer.refusal.map_or(0, Refusal::number), value: answer.sends }
 }
 

@@ -1,12 +1,11 @@
 /* How much stack each entry takes, measured at full size (256 objects, 64 blocks, 1,024 slots) with a full log whose last operation
- * nothing precedes, so that the precedence test goes through all of it, and of which all is due from a time on. Each call runs on a
- * painted stack of its own. Run it with ./stack. */
+ * nothing precedes, so that the precedence test goes through all of it. Each call runs on a painted stack of its own. Run it with ./stack. */
 #define _GNU_SOURCE
 #include <pthread.h>
 #include <stdio.h>
 #include <stdlib.h>
 #include <string.h>
-#include "numbers.h"
+#include "writebehind.h"
 
 #define N WB_MOST_OBJECTS
 #define B WB_MOST_BLOCKS
@@ -19,10 +18,6 @@ static uint8_t saved_server[sizeof server], saved_view[sizeof view], saved_slots
 static uint64_t first, last;
 #define LENT N, B, M, server, sizeof server, view, sizeof view, slots, sizeof slots
 
-/* When all is issued, and how long it may wait. There are as many rows as there may be; all but the first hold no length. */
-enum { CLOCK = 1000, SECONDS = 60 };
-static uint8_t rows[WB_ROWS * WB_ROW_BYTES];
-
 static uint64_t nothing(void) { return 0; }
 static uint64_t format(void) { return wb_format(N, B, M, server, sizeof server).returned; }
 static uint64_t mount(void) { return wb_mount(LENT).returned; }
@@ -30,25 +25,19 @@ static uint64_t lookup(void) { return wb_lookup(LENT, 0, (const uint8_t *)"/f200
 static uint64_t list(void) { return wb_list(LENT, 0, 0, own, sizeof own).returned; }
 static uint64_t stat_of(void) { return wb_stat(LENT, 0, 1).returned; }
 static uint64_t read_of(void) { return wb_read(LENT, 0, 1, 0, own, sizeof own).returned; }
-static uint64_t create(void) { return wb_create(LENT, 0, 0, (const uint8_t *)"new", 3, 250, CLOCK).returned; }
-static uint64_t make(void) { return wb_mkdir(LENT, 0, 0, (const uint8_t *)"new", 3, 250, CLOCK).returned; }
-static uint64_t remove_file(void) { return wb_remove_file(LENT, 0, 0, (const uint8_t *)"f200", 4, CLOCK).returned; }
-static uint64_t remove_directory(void) { return wb_remove_directory(LENT, 0, 0, (const uint8_t *)"d201", 4, CLOCK).returned; }
-static uint64_t rename_of(void)
-{
-    return wb_rename(LENT, 0, 0, (const uint8_t *)"f200", 4, 0, (const uint8_t *)"f1", 2, CLOCK).returned;
-}
-static uint64_t write_of(void) { return wb_write(LENT, 0, 1, 0, own, WB_BLOCK_BYTES, CLOCK).returned; }
-static uint64_t write_across(void) { return wb_write(LENT, 0, 2, 0, own, WB_BLOCK_BYTES, CLOCK).returned; }
-static uint64_t setlen(void) { return wb_setlen(LENT, 0, 1, 0, CLOCK).returned; }
-static uint64_t forder(void) { return wb_forder(LENT, 0, (const uint8_t *)"\1\0\2\0", 4, CLOCK).returned; }
+static uint64_t create(void) { return wb_create(LENT, 0, 0, (const uint8_t *)"new", 3, 250).returned; }
+static uint64_t make(void) { return wb_mkdir(LENT, 0, 0, (const uint8_t *)"new", 3, 250).returned; }
+static uint64_t remove_file(void) { return wb_remove_file(LENT, 0, 0, (const uint8_t *)"f200", 4).returned; }
+static uint64_t remove_directory(void) { return wb_remove_directory(LENT, 0, 0, (const uint8_t *)"d201", 4).returned; }
+static uint64_t rename_of(void) { return wb_rename(LENT, 0, 0, (const uint8_t *)"f200", 4, 0, (const uint8_t *)"f1", 2).returned; }
+static uint64_t write_of(void) { return wb_write(LENT, 0, 1, 0, own, WB_BLOCK_BYTES).returned; }
+static uint64_t write_across(void) { return wb_write(LENT, 0, 2, 0, own, WB_BLOCK_BYTES).returned; }
+static uint64_t setlen(void) { return wb_setlen(LENT, 0, 1, 0).returned; }
+static uint64_t forder(void) { return wb_forder(LENT, 0, (const uint8_t *)"\1\0\2\0", 4).returned; }
 static uint64_t push(void) { return wb_push(LENT, last).returned; }
 static uint64_t push_behind(void) { return wb_push(LENT, last - 1).returned; }
 static uint64_t fsync_of(void) { return wb_fsync(LENT, 0, 1, M).returned; }
 static uint64_t fsync_lost(void) { return wb_fsync(LENT, 0, 1, 1).returned; }
-static uint64_t load_rows(void) { return wb_load_rows(LENT, rows, sizeof rows).returned; }
-static uint64_t send_due(void) { return wb_send_due(LENT, CLOCK + SECONDS).returned; }
-static uint64_t send_none(void) { return wb_send_due(LENT, CLOCK + SECONDS - 1).returned; }
 static uint64_t cut(void) { return wb_cut(LENT).returned; }
 static uint64_t take(void) { return wb_take(LENT, 0, own, sizeof own).returned; }
 static uint64_t renew(void) { return wb_renew(LENT, 0).returned; }
@@ -91,29 +80,22 @@ static void prepare(void)
 {
     char name[8];
     int i;
-    for (i = 0; i < WB_ROWS; i++) {
-        put_number(rows + i * WB_ROW_BYTES + SHORTEST_AT, i > 0, 4);
-        put_number(rows + i * WB_ROW_BYTES + LONGEST_AT, i > 0 ? 0 : LONGEST_FILE, 4);
-        put_number(rows + i * WB_ROW_BYTES + SECONDS_AT, SECONDS, 4);
-    }
     expect(format(), 0, "format");
     expect(mount(), 0, "mount");
-    expect(load_rows(), 0, "load rows");
     for (i = 1; i <= 200; i++) {
         int length = sprintf(name, "f%d", i);
-        expect(wb_create(LENT, 0, 0, (const uint8_t *)name, (uint64_t)length, (uint64_t)i, 0).returned, 0, "create");
-        expect(wb_write(LENT, 0, (uint64_t)i, 0, own, WB_BLOCK_BYTES, 0).returned, 0, "write");
+        expect(wb_push(LENT, wb_create(LENT, 0, 0, (const uint8_t *)name, (uint64_t)length, (uint64_t)i).value).returned, 0, "push");
+        expect(wb_push(LENT, wb_write(LENT, 0, (uint64_t)i, 0, own, WB_BLOCK_BYTES).value).returned, 0, "push");
     }
-    expect(wb_setlen(LENT, 0, 2, 1000, 0).returned, 0, "setlen");
-    expect(wb_mkdir(LENT, 0, 0, (const uint8_t *)"d201", 4, 201, 0).returned, 0, "mkdir");
-    expect(wb_send_due(LENT, CLOCK).value, 402, "the sends of what is due");
+    expect(wb_push(LENT, wb_setlen(LENT, 0, 2, 1000).value).returned, 0, "push");
+    expect(wb_push(LENT, wb_mkdir(LENT, 0, 0, (const uint8_t *)"d201", 4, 201).value).returned, 0, "push");
     for (i = 0; i < M - 1; i++) {
-        struct wb_value written = wb_write(LENT, 0, 1 + (uint64_t)i % 199, 0, own, 4, CLOCK);
+        struct wb_value written = wb_write(LENT, 0, 1 + (uint64_t)i % 199, 0, own, 4);
         expect(written.returned, 0, "write");
         if (i == 0)
             first = written.value;
     }
-    last = wb_write(LENT, 0, 200, 0, own, 4, CLOCK).value;
+    last = wb_write(LENT, 0, 200, 0, own, 4).value;
     memcpy(saved_server, server, sizeof server);
     memcpy(saved_view, view, sizeof view);
     memcpy(saved_slots, slots, sizeof slots);
@@ -148,15 +130,6 @@ static void two_free(void)
 {
     one_free();
     expect(wb_push(LENT, first + 1).returned, 0, "push");
-}
-
-/* Every second operation never becomes due. */
-static void every_second(void)
-{
-    int i;
-    restore();
-    for (i = 0; i < M; i += 2)
-        put_number(slots + WB_LOG_HEAD_BYTES + (size_t)i * WB_SLOT_BYTES + DUE_AT, WB_NEVER, 4);
 }
 
 static void measure_changes(size_t base)
@@ -199,12 +172,6 @@ int main(void)
     measure("fsync", fsync_of, 0, base);
     restore();
     measure("fsync, link lost", fsync_lost, WB_LINK_LOST, base);
-    restore();
-    measure("load rows", load_rows, 0, base);
-    measure("send due, nothing", send_none, 0, base);
-    measure("send due, all", send_due, 0, base);
-    every_second();
-    measure("send due, every second one", send_due, 0, base);
     restore();
     measure("cut", cut, 0, base);
     measure("renew with losses", renew, WB_LOSSES_LEFT, base);

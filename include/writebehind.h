@@ -16,15 +16,14 @@
  * call at a time. A call takes at most WB_STACK_BYTES of stack. Of the C library it needs at most memcpy, memmove, memset and
  * memcmp, which gcc asks of a freestanding program too. The archive is for x86-64.
  *
- * NUMBERS. All numbers are uint64_t and are taken whole: program 4,294,967,296 is refused and is not taken for program 0. Only
- * a clock is uint32_t, and none is out of range.
+ * NUMBERS. All numbers are uint64_t and are taken whole: program 4,294,967,296 is refused and is not taken for program 0.
  *
  * RESULTS. Each call answers by value with a struct whose first field, returned, is 0 (WB_ACCEPTED) or says why the call is
- * refused. With a refusal the other fields are 0 and no byte of any buffer is changed; only wb_fsync and wb_send_due have
- * exceptions. Where several refusals hold, the one that is named first in the call's list below is the answer: the lowest
- * number, but for a path, which goes by component, and for the second sense of WB_DAMAGED (an operation being sent does not
- * apply to the server volume), which comes late. The lists begin with WB_WRONG_BUFFER (n, b or m out of range, or the length
- * of the server volume, view or log is not as above) and WB_DAMAGED (the form of one of the three is broken).
+ * refused. With a refusal the other fields are 0 and no byte of any buffer is changed; only wb_fsync has exceptions. Where
+ * several refusals hold, the one that is named first in the call's list below is the answer: the lowest number, but for a
+ * path, which goes by component, and for the second sense of WB_DAMAGED (an operation being sent does not apply to the server
+ * volume), which comes late. The lists begin with WB_WRONG_BUFFER (n, b or m out of range, or the length of the server
+ * volume, view or log is not as above) and WB_DAMAGED (the form of one of the three is broken).
  *
  * OBJECTS AND NAMES. An object is a number below n. Object 0 is the root directory; the others are free, files or directories.
  * The caller chooses a free number for what it creates. A name has 1 to 60 bytes, none of them 0 or a slash, and is neither
@@ -43,32 +42,6 @@
  * overwrites without a common byte. An operation precedes another also through a third and further ones. It is sent only after
  * all that precede it. So a forder stands between the earlier and the later operations on the objects of its list, and the
  * append of a write across the end is sent only after its overwrite.
- *
- * TIME AND ROWS. The host tells the time with each change, with forder and with wb_send_due: a clock in seconds from any
- * beginning. Time never runs back: a clock that is earlier than the latest time seen counts as that one. An accepted call keeps
- * the time, a refused change or forder does not. A table of up to 16 rows says how long an operation may wait, by the size of
- * its file: a row has a shortest length, a longest length and 1 to 3,600 seconds, and each length from 0 to 65,536 lies in
- * exactly one row. wb_load_rows puts such a table into the log in place of the one there. It is lent 12 bytes a row, three
- * numbers of 4 bytes, low byte first; the rows may come in any order, and their ends may lie above 65,536. A row whose shortest
- * length is above its longest holds no length. An operation gets a due time when it is issued: the time then, plus the seconds
- * of the row that holds the length, just after the operation, of its object, if that is then a file. A directory, a removed
- * object and forder count as length 0; of a write across the end each operation goes by the length that it leaves itself. A due
- * time stops at WB_NEVER, and stays as it is whatever rows are loaded later.
- *
- * wb_send_due sends what is due: every operation whose due time is not after the time now, with all that precede it, in issue
- * order. A host makes this call by a timer; then nothing waits longer than its row says by more than the time between two such
- * calls. What was issued before any rows were loaded has the due time WB_NEVER: below that time it goes only where it precedes
- * one that is due, by wb_push or by wb_fsync. A cut keeps rows, latest time and the due times of what is lost. wb_mount begins
- * with no rows, and 0 as the latest time. These rows let small files wait 10 seconds, files of 4,096 bytes and more 60:
- *
- *     shortest   longest     seconds   lent as
- *     0          4,095       10        0 0 0 0    255 15 0 0   10 0 0 0
- *     4,096      65,536      60        0 16 0 0   0 0 1 0      60 0 0 0
- *
- * At time 100 a file of 4,000 bytes is overwritten (due at 110); at 103 a write at its end adds 96 bytes (due at 163, for the
- * length is then 4,096); at 105 the file is removed (due at 115, since a removed object counts as length 0). wb_send_due with a
- * clock of 109 sends nothing; with 110 the overwrite; with 115 the other two: the append precedes the remove, which is due. Had
- * the rows 4,000 in place of 4,095, wb_load_rows would be refused with WB_GAP; with 4,096 there, with WB_OVERLAP.
  *
  * DEPENDENCE. The log keeps, for each waiting operation, the programs that depend on it: the one that issued it, and each that
  * afterwards had an accepted call on one of its operands, or on an operand of a later operation to which a chain leads, each
@@ -90,7 +63,7 @@
  *     wb_format(64, 4, 32, server, sizeof server);
  *     wb_mount(64, 4, 32, server, sizeof server, view, sizeof view, slots, sizeof slots);
  *     struct wb_value made = wb_create(64, 4, 32, server, sizeof server, view, sizeof view, slots, sizeof slots,
- *                                      0, 0, (const uint8_t *)"task", 4, 1, (uint32_t)time(NULL));
+ *                                      0, 0, (const uint8_t *)"task", 4, 1);
  *     if (made.returned != WB_ACCEPTED)
  *         puts(wb_text(made.returned));
  *     else
@@ -119,16 +92,12 @@ extern "C" {
 #define WB_LIST_OBJECTS 8               /* the most objects of a forder */
 #define WB_RECORD_BYTES 1040            /* the longest loss record; the least buffer for wb_take */
 #define WB_LAST_SEQUENCE 4294967294     /* the greatest sequence number */
-#define WB_ROWS 16                      /* the most rows */
-#define WB_ROW_BYTES 12                 /* a row: shortest length (4), longest length (4), seconds (4) */
-#define WB_MOST_SECONDS 3600            /* the seconds of a row are 1 to these */
-#define WB_NEVER 4294967295             /* the last due time, and that of an operation issued before rows were loaded */
 #define WB_STACK_BYTES 40960            /* the most that a call takes; measured: 13,808 (host/stack) */
 
 /* The stored form: a volume is n entries, a log is a head and m slots. The bytes of a field stand in brackets. */
 #define WB_ENTRY_HEAD_BYTES 68  /* an entry up to its data: kind (1), name length (1), parent (2), name (60), file length (4) */
-#define WB_LOG_HEAD_BYTES 208   /* next sequence number (4), marked programs (4), latest time (4), row count (4), 16 rows */
-#define WB_SLOT_BYTES 1052      /* state (1), 3 zero bytes, dependents (4), a loss record, zeros, due time (4) */
+#define WB_LOG_HEAD_BYTES 8     /* next sequence number (4), marked programs (4) */
+#define WB_SLOT_BYTES 1048      /* state (1), 3 zero bytes, dependents (4), a loss record, zeros */
 
 /* The bytes of a volume (server volume or view) of n objects and b blocks a file, and of a log of m slots. They are constant
  * expressions where their arguments are. */
@@ -141,7 +110,7 @@ extern "C" {
 /* The returned numbers. */
 enum wb_returned {
     WB_ACCEPTED = 0,
-    WB_WRONG_BUFFER = 1,  /* n, b or m is out of range, or the length of the server volume, view, log or rows is wrong */
+    WB_WRONG_BUFFER = 1,  /* n, b or m is out of range, or the length of the server volume, view or log is wrong */
     WB_DAMAGED = 2,       /* a stored form is broken; or an operation being sent does not apply to the server volume */
     WB_BAD_PROGRAM = 3,   /* the program is 32 or more */
     WB_MARKED = 4,        /* the program is marked */
@@ -160,10 +129,7 @@ enum wb_returned {
     WB_LINK_LOST = 17,    /* the link carries fewer sends than are needed */
     WB_LOSSES_LEFT = 18,  /* the program has not yet taken all losses of its own operations */
     WB_SHORT_BUFFER = 19, /* the listing does not fit; a buffer for take has fewer than 1,040 bytes */
-    WB_BAD_RECORD = 20,   /* no valid loss record begins at the place */
-    WB_GAP = 21,          /* a length of 0 to 65,536 is in no row */
-    WB_OVERLAP = 22,      /* a length of 0 to 65,536 is in more than one row */
-    WB_BAD_SECONDS = 23   /* the seconds of a row are not 1 to 3,600 */
+    WB_BAD_RECORD = 20    /* no valid loss record begins at the place */
 };
 
 /* A short text for a returned number. */
@@ -191,14 +157,11 @@ static inline const char *wb_text(uint64_t number)
     case WB_LOSSES_LEFT: return "losses left: take them before renewing";
     case WB_SHORT_BUFFER: return "short buffer";
     case WB_BAD_RECORD: return "bad record";
-    case WB_GAP: return "gap: a length is in no row";
-    case WB_OVERLAP: return "overlap: a length is in two rows";
-    case WB_BAD_SECONDS: return "bad seconds: outside 1 to 3,600";
     default: return "not a returned number";
     }
 }
 
-/* The returned number alone: of wb_format, wb_mount, wb_push, wb_load_rows, wb_cut and wb_renew. */
+/* The returned number alone: of wb_format, wb_mount, wb_push, wb_cut and wb_renew. */
 struct wb_code {
     uint64_t returned;
 };
@@ -253,8 +216,8 @@ struct wb_loss {
 struct wb_code wb_format(uint64_t n, uint64_t b, uint64_t m, uint8_t *server, uint64_t server_length);
 
 /*
- * Copies the server volume to the view and begins an empty log: next sequence number 1, no marks, latest time 0, no rows. What
- * the view and the log held is dropped unseen, losses too.
+ * Copies the server volume to the view and begins an empty log: next sequence number 1, no marks. What the view and the log
+ * held is dropped unseen, losses too.
  *   n, b, m         the three numbers, here and in every call below
  *   server          read
  *   view, log       written whole
@@ -325,8 +288,7 @@ struct wb_value wb_read(uint64_t n, uint64_t b, uint64_t m, const uint8_t *serve
                         const uint8_t *view, uint64_t view_length, uint8_t *log, uint64_t log_length,
                         uint64_t program, uint64_t object, uint64_t offset, uint8_t *buffer, uint64_t buffer_length);
 
-/* ---- Changes, and forder. The server volume is read and stays as it is; the conditions are asked of the view. An operation is
- *      put into a slot with its due time, and the log keeps the latest time ---- */
+/* ---- Changes, and forder. The server volume is read and stays as it is; the conditions are asked of the view ---- */
 
 /*
  * Creates an empty file; wb_mkdir likewise makes an empty directory.
@@ -337,7 +299,6 @@ struct wb_value wb_read(uint64_t n, uint64_t b, uint64_t m, const uint8_t *serve
  *   parent          the directory
  *   name            read: the name of the new object, stored as typed
  *   object          a free number for it, 1 to n - 1
- *   clock           the time now, in seconds
  * Answers in value the sequence number. Refused with, in this order: WB_WRONG_BUFFER, WB_DAMAGED, WB_BAD_PROGRAM, WB_MARKED,
  * WB_BAD_NAME, WB_LONG_NAME, WB_BAD_NUMBER (parent or object n or more, object 0), WB_NO_OBJECT (the parent is free),
  * WB_WRONG_KIND (the parent is a file), WB_TAKEN (the name, in whatever spelling, or the number is in use), WB_LOG_FULL,
@@ -345,13 +306,11 @@ struct wb_value wb_read(uint64_t n, uint64_t b, uint64_t m, const uint8_t *serve
  */
 struct wb_value wb_create(uint64_t n, uint64_t b, uint64_t m, const uint8_t *server, uint64_t server_length,
                           uint8_t *view, uint64_t view_length, uint8_t *log, uint64_t log_length,
-                          uint64_t program, uint64_t parent, const uint8_t *name, uint64_t name_length, uint64_t object,
-                          uint32_t clock);
+                          uint64_t program, uint64_t parent, const uint8_t *name, uint64_t name_length, uint64_t object);
 
 struct wb_value wb_mkdir(uint64_t n, uint64_t b, uint64_t m, const uint8_t *server, uint64_t server_length,
                          uint8_t *view, uint64_t view_length, uint8_t *log, uint64_t log_length,
-                         uint64_t program, uint64_t parent, const uint8_t *name, uint64_t name_length, uint64_t object,
-                         uint32_t clock);
+                         uint64_t program, uint64_t parent, const uint8_t *name, uint64_t name_length, uint64_t object);
 
 /*
  * Removes a file, and nothing else; wb_remove_directory likewise removes an empty directory, and nothing else.
@@ -361,7 +320,6 @@ struct wb_value wb_mkdir(uint64_t n, uint64_t b, uint64_t m, const uint8_t *serv
  *   program         the program that issues the operation
  *   parent          the directory
  *   name            read: the name to be found in it, in whatever spelling
- *   clock           the time now, in seconds
  * Answers in value the sequence number. Refused with, in this order: WB_WRONG_BUFFER, WB_DAMAGED, WB_BAD_PROGRAM, WB_MARKED,
  * WB_BAD_NAME, WB_LONG_NAME, WB_BAD_NUMBER, WB_NO_OBJECT (the parent is free, or the name absent), WB_WRONG_KIND (the parent is
  * a file; or the object is of the other kind: for wb_remove_file a directory, empty or not, for wb_remove_directory a file),
@@ -369,12 +327,11 @@ struct wb_value wb_mkdir(uint64_t n, uint64_t b, uint64_t m, const uint8_t *serv
  */
 struct wb_value wb_remove_file(uint64_t n, uint64_t b, uint64_t m, const uint8_t *server, uint64_t server_length,
                                uint8_t *view, uint64_t view_length, uint8_t *log, uint64_t log_length,
-                               uint64_t program, uint64_t parent, const uint8_t *name, uint64_t name_length, uint32_t clock);
+                               uint64_t program, uint64_t parent, const uint8_t *name, uint64_t name_length);
 
 struct wb_value wb_remove_directory(uint64_t n, uint64_t b, uint64_t m, const uint8_t *server, uint64_t server_length,
                                     uint8_t *view, uint64_t view_length, uint8_t *log, uint64_t log_length,
-                                    uint64_t program, uint64_t parent, const uint8_t *name, uint64_t name_length,
-                                    uint32_t clock);
+                                    uint64_t program, uint64_t parent, const uint8_t *name, uint64_t name_length);
 
 /*
  * Gives an object another name, and a file another parent too if wanted. The second name is stored as typed. Another object that
@@ -389,7 +346,6 @@ struct wb_value wb_remove_directory(uint64_t n, uint64_t b, uint64_t m, const ui
  *   name            read: its name there, in whatever spelling
  *   second_parent   the directory that it comes into; for a directory the same as parent
  *   second_name     read: its name there, stored as typed
- *   clock           the time now, in seconds
  * Answers in value the sequence number. Refused with, in this order: WB_WRONG_BUFFER, WB_DAMAGED, WB_BAD_PROGRAM, WB_MARKED,
  * WB_BAD_NAME (either name), WB_LONG_NAME (either name), WB_BAD_NUMBER (either parent), WB_NO_OBJECT (either parent is free, or
  * the first is a directory without the name), WB_WRONG_KIND (either parent is a file, a directory would leave its parent, or
@@ -398,7 +354,7 @@ struct wb_value wb_remove_directory(uint64_t n, uint64_t b, uint64_t m, const ui
 struct wb_value wb_rename(uint64_t n, uint64_t b, uint64_t m, const uint8_t *server, uint64_t server_length,
                           uint8_t *view, uint64_t view_length, uint8_t *log, uint64_t log_length,
                           uint64_t program, uint64_t parent, const uint8_t *name, uint64_t name_length,
-                          uint64_t second_parent, const uint8_t *second_name, uint64_t second_name_length, uint32_t clock);
+                          uint64_t second_parent, const uint8_t *second_name, uint64_t second_name_length);
 
 /*
  * Writes bytes of a file, all in one block. Wholly inside the length they are an overwrite; beginning at the length they are an
@@ -413,7 +369,6 @@ struct wb_value wb_rename(uint64_t n, uint64_t b, uint64_t m, const uint8_t *ser
  *   object          the file
  *   offset          where the bytes go
  *   data            read: the bytes
- *   clock           the time now, in seconds
  * Answers in value the sequence number; of two operations that of the overwrite, and the append has the next. Refused with, in
  * this order: WB_WRONG_BUFFER, WB_DAMAGED, WB_BAD_PROGRAM, WB_MARKED, WB_BAD_NUMBER, WB_NO_OBJECT, WB_WRONG_KIND (a directory),
  * WB_BAD_RANGE (0 bytes, across two blocks, beginning beyond the length, or ending beyond b blocks), WB_LOG_FULL (for two
@@ -421,8 +376,7 @@ struct wb_value wb_rename(uint64_t n, uint64_t b, uint64_t m, const uint8_t *ser
  */
 struct wb_value wb_write(uint64_t n, uint64_t b, uint64_t m, const uint8_t *server, uint64_t server_length,
                          uint8_t *view, uint64_t view_length, uint8_t *log, uint64_t log_length,
-                         uint64_t program, uint64_t object, uint64_t offset, const uint8_t *data, uint64_t data_length,
-                         uint32_t clock);
+                         uint64_t program, uint64_t object, uint64_t offset, const uint8_t *data, uint64_t data_length);
 
 /*
  * Gives a file another length. What this adds is zeros.
@@ -432,13 +386,12 @@ struct wb_value wb_write(uint64_t n, uint64_t b, uint64_t m, const uint8_t *serv
  *   program         the program that issues the operation
  *   object          the file
  *   length          the new length, at most 1,024 * b
- *   clock           the time now, in seconds
  * Answers in value the sequence number. Refused with, in this order: WB_WRONG_BUFFER, WB_DAMAGED, WB_BAD_PROGRAM, WB_MARKED,
  * WB_BAD_NUMBER, WB_NO_OBJECT, WB_WRONG_KIND (a directory), WB_BAD_RANGE (over 1,024 * b), WB_LOG_FULL, WB_SPENT.
  */
 struct wb_value wb_setlen(uint64_t n, uint64_t b, uint64_t m, const uint8_t *server, uint64_t server_length,
                           uint8_t *view, uint64_t view_length, uint8_t *log, uint64_t log_length,
-                          uint64_t program, uint64_t object, uint64_t length, uint32_t clock);
+                          uint64_t program, uint64_t object, uint64_t length);
 
 /*
  * Puts an operation between the earlier and the later operations on 1 to 8 objects.
@@ -446,13 +399,12 @@ struct wb_value wb_setlen(uint64_t n, uint64_t b, uint64_t m, const uint8_t *ser
  *   log             dependence on the objects is noted; the operation is put into a slot
  *   program         the program that issues the operation
  *   list            read: the objects, files or directories, the root too; 2 bytes each, low byte first; each once
- *   clock           the time now, in seconds
  * Answers in value the sequence number. Refused with, in this order: WB_WRONG_BUFFER, WB_DAMAGED, WB_BAD_PROGRAM, WB_MARKED,
  * WB_BAD_NUMBER (0 bytes, an odd number or over 16; an object twice, or one of n or more), WB_NO_OBJECT, WB_LOG_FULL, WB_SPENT.
  */
 struct wb_value wb_forder(uint64_t n, uint64_t b, uint64_t m, const uint8_t *server, uint64_t server_length,
                           const uint8_t *view, uint64_t view_length, uint8_t *log, uint64_t log_length,
-                          uint64_t program, const uint8_t *list, uint64_t list_length, uint32_t clock);
+                          uint64_t program, const uint8_t *list, uint64_t list_length);
 
 /* ---- Sends and the link ---- */
 
@@ -478,7 +430,7 @@ struct wb_code wb_push(uint64_t n, uint64_t b, uint64_t m, uint8_t *server, uint
  *   sends           k, the sends that the link still carries
  * Answers in value the sends made: d if accepted. Refused with, in this order: WB_WRONG_BUFFER, WB_DAMAGED (a form),
  * WB_BAD_PROGRAM, WB_MARKED, WB_BAD_NUMBER, WB_NO_OBJECT, WB_DAMAGED (one of the first k does not apply to the server volume),
- * WB_LINK_LOST (k below d). Only here and in wb_send_due do refusals change buffers, and have a value:
+ * WB_LINK_LOST (k below d). Only here do refusals change buffers, and have a value:
  * - WB_DAMAGED over an operation: those before it are sent and value is their number. Nothing is lost, no dependence noted.
  * - WB_LINK_LOST: dependence is noted, the first k are sent, then all that waits is lost as by wb_cut. value is k. So the program
  *   that called is always marked.
@@ -488,39 +440,10 @@ struct wb_value wb_fsync(uint64_t n, uint64_t b, uint64_t m, uint8_t *server, ui
                          uint64_t program, uint64_t object, uint64_t sends);
 
 /*
- * Loads the rows that give later operations their due times, in place of those loaded before. Due times that stand in the log
- * stay as they are.
- *   server, view    read
- *   log             the rows are put into its head
- *   rows            read: 1 to 16 rows, 12 bytes each: shortest length, longest length and seconds, 4 bytes each, low byte first
- * Answers nothing else. Refused with, in this order: WB_WRONG_BUFFER (also where rows_length is not a multiple of 12, or over
- * 192), WB_DAMAGED, WB_GAP (a length of 0 to 65,536 in no row; no rows at all), WB_OVERLAP (one in more than one row),
- * WB_BAD_SECONDS (in a row that holds no length too). Stored rows that break one of these rules are WB_DAMAGED for every call
- * but wb_mount; a log without rows is well formed.
- */
-struct wb_code wb_load_rows(uint64_t n, uint64_t b, uint64_t m, const uint8_t *server, uint64_t server_length,
-                            const uint8_t *view, uint64_t view_length, uint8_t *log, uint64_t log_length,
-                            const uint8_t *rows, uint64_t rows_length);
-
-/*
- * Sends what is due: every waiting operation whose due time is not after the time now, and all that precede them, in issue order.
- * It has no program and brings no dependence.
- *   server          the operations are applied to it
- *   view            read
- *   log             the latest time is kept; the slots of what is sent are freed
- *   clock           the time now, in seconds
- * Answers in value the sends made. Refused with, in this order: WB_WRONG_BUFFER, WB_DAMAGED (a form), WB_DAMAGED (one of them
- * does not apply to the server volume). With the last one the time and the sends before that operation are kept, and value is
- * the number of these. Nothing is lost.
- */
-struct wb_value wb_send_due(uint64_t n, uint64_t b, uint64_t m, uint8_t *server, uint64_t server_length,
-                            const uint8_t *view, uint64_t view_length, uint8_t *log, uint64_t log_length, uint32_t clock);
-
-/*
  * The link is cut: all waiting operations become lost ones. It may be called with nothing waiting.
  *   server          read
  *   view            becomes a copy of the server volume
- *   log             the dependents of the waiting operations are marked, these become lost; rows and times stay
+ *   log             the dependents of the waiting operations are marked, these become lost
  * Answers nothing else. Refused with, in this order: WB_WRONG_BUFFER, WB_DAMAGED.
  */
 struct wb_code wb_cut(uint64_t n, uint64_t b, uint64_t m, const uint8_t *server, uint64_t server_length,

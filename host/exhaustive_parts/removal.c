@@ -1,16 +1,16 @@
 #include "removal.h"
 
-struct wb_value call_removal(struct buffers *lent, const struct operation *given, uint64_t kind, uint32_t clock)
+struct wb_value call_removal(struct buffers *lent, const struct operation *given, uint64_t kind)
 {
     if (kind == DIRECTORY_ENTRY)
-        return wb_remove_directory(LENT(lent), given->program, given->parent, given->name, given->name_length, clock);
-    return wb_remove_file(LENT(lent), given->program, given->parent, given->name, given->name_length, clock);
+        return wb_remove_directory(LENT(lent), given->program, given->parent, given->name, given->name_length);
+    return wb_remove_file(LENT(lent), given->program, given->parent, given->name, given->name_length);
 }
 
 /* The remove by the call for this kind is refused with the number and changes nothing. */
 static void refuse(struct buffers *lent, const struct operation *asked, uint64_t kind, uint64_t number, const char *what)
 {
-    const struct wb_value got = call_removal(lent, asked, kind, WB_NEVER);
+    const struct wb_value got = call_removal(lent, asked, kind);
     answered(what, got.returned, number);
     equal("the value of a refused remove", got.value, 0);
     unchanged(what, lent, &stage()->lent);

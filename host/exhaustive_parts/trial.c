@@ -68,41 +68,17 @@ int closed(unsigned set)
     return 1;
 }
 
-/* The chosen operations (1 where chosen) as a set, with all that precede them. */
-static unsigned completed(uint8_t chosen[MOST])
+unsigned needed(uint64_t object)
 {
+    uint8_t chosen[MOST];
     unsigned set = 0;
     uint64_t i;
+    for (i = 0; i < now.issued; i++)
+        chosen[i] = (uint8_t)has_operand(&now.operations[i], object);
     with_predecessors(listed(), now.issued, chosen);
     for (i = 0; i < now.issued; i++)
         set |= (unsigned)chosen[i] << i;
     return set;
-}
-
-unsigned needed(uint64_t object)
-{
-    uint8_t chosen[MOST];
-    uint64_t i;
-    for (i = 0; i < now.issued; i++)
-        chosen[i] = (uint8_t)has_operand(&now.operations[i], object);
-    return completed(chosen);
-}
-
-unsigned due_at(uint64_t time)
-{
-    uint8_t chosen[MOST];
-    uint64_t i;
-    for (i = 0; i < now.issued; i++)
-        chosen[i] = stage()->due[i] <= time;
-    return completed(chosen);
-}
-
-/* Two tables by turns, so that what is issued later is often due earlier, also of one file. */
-const struct rows *rows_for(uint64_t i)
-{
-    static const struct rows tables[] = {{4, {{0, 0, 3}, {1, 7, 9}, {8, 8, 5}, {9, LONGEST_FILE, 1}}},
-        {5, {{9, UINT32_MAX, 20}, {8, 8, 1}, {7, 6, 3600}, {1, 7, 2}, {0, 0, 8}}}};
-    return &tables[i % 2];
 }
 
 void depend(uint32_t dependents[MOST], uint64_t program, const uint64_t *objects, uint64_t count)
@@ -146,8 +122,6 @@ static void print_trial(void)
     for (i = 0; i < now.issued + now.asked; i++) {
         printf(i < now.issued ? "operation " : i == now.issued ? "then the call of operation " : "and of operation ");
         print_operation(stdout, &now.operations[i]);
-        if (i < now.issued)
-            printf(", due at %lu", (unsigned long)stage()->due[i]);
         printf("\n");
     }
     printf("pushes:");
@@ -156,8 +130,6 @@ static void print_trial(void)
     printf("%s\n", now.pushes ? "" : " none");
     if (now.fsyncs)
         printf("then fsync of object %d with %d sends\n", (int)now.object, (int)now.sends);
-    if (now.sending)
-        printf("then the sending call with clock %lu\n", (unsigned long)now.clock);
 }
 
 void fail(const char *text, ...)
@@ -205,7 +177,6 @@ void unchanged(const char *what, const struct buffers *got, const struct buffers
 
 static void check_slot(const uint8_t *slot, uint64_t state, uint64_t dependents, uint64_t sequence)
 {
-    equal("the due time of a slot", number_at(slot + DUE_AT, 4), stage()->due[sequence - 1]);
     equal("the state of a slot", number_at(slot + STATE_AT, DEPENDENTS_AT - STATE_AT), state); /* the zero bytes behind it too */
     equal("the sequence number of a slot", number_at(slot + RECORD_AT + RECORD_SEQUENCE_AT, 4), sequence);
     equal("the dependents of a slot", number_at(slot + DEPENDENTS_AT, 4), dependents);
@@ -216,12 +187,9 @@ static void check_log(const uint8_t *log, uint32_t marks, unsigned set, const ui
 {
     static const uint8_t zeros[LOG];
     const uint8_t *slot = log + WB_LOG_HEAD_BYTES;
-    uint8_t times[TIMES_BYTES];
     uint64_t i;
-    put_times(rows_for(now.issued), told_time(stage()->time, now.sending ? now.clock : 0), times);
     equal("the next sequence number", number_at(log + NEXT_AT, 4), now.issued + 1);
     equal("the marks", number_at(log + MARKS_AT, 4), marks);
-    same("latest time and rows", log + TIME_AT, times, TIMES_BYTES);
     for (i = 0; i < now.issued; i++)
         if (in(set, i)) {
             check_slot(slot, dependents ? STATE_WAITING : STATE_LOST, dependents ? dependents[i] : 0, i + 1);

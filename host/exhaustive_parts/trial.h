@@ -5,7 +5,6 @@
 #include <stddef.h>
 #include "alphabet.h"
 #include "order.h"
-#include "rows.h"
 
 enum { N = 4, B = 1, MOST = 5 };     /* object 0 is the root; a sequence has at most 5 operations */
 enum { ASKER = 5 };                  /* the program that asks and calls fsync; lower ones issue operations */
@@ -16,13 +15,12 @@ struct buffers {
     uint8_t server[VOLUME], view[VOLUME], log[LOG];
 };
 
-/* The programs that issue the operations, numbered from 0 on, when the asker asks for the status of object 1, and the clocks that
- * the operations come with. Both operations of a write across the end have the program and the clock of the first. */
+/* The programs that issue the operations, numbered from 0 on, and when the asker asks for the status of object 1. Both operations
+ * of a write across the end have the program of the first. */
 struct assignment {
     const char *text;
     uint64_t count, programs[MOST];
     enum { AFTER_FIRST, AFTER_LAST, BEFORE_CUT } asks;
-    uint32_t clocks[MOST];
 };
 
 /* What is lent after some operations, all waiting, and what the host reckons. */
@@ -30,8 +28,6 @@ struct stage {
     struct buffers lent;
     uint8_t view[VOLUME];            /* the replay of all these operations */
     uint32_t dependents[MOST];       /* of each operation: bit p for program p */
-    uint64_t due[MOST];              /* of each operation: when it is due */
-    uint64_t time;                   /* the latest time */
 };
 
 /* Where the trial stands. A set of operations is a number with bit i for operations[i]. */
@@ -44,8 +40,6 @@ struct trial {
     uint64_t pushes, pushed[MOST + 1];     /* the sequence numbers pushed, in this order; the last one may be refused */
     int fsyncs;                            /* an fsync of the object with so many sends comes next */
     uint64_t object, sends;
-    int sending;                           /* a sending call with this clock comes next */
-    uint32_t clock;
     struct operation operations[MOST + 1];
     unsigned rests;                        /* the appends of writes across the end; before each stands its overwrite */
     unsigned preceding[MOST];              /* of each operation the set that directly precedes it */
@@ -70,9 +64,6 @@ struct counts {
     uint64_t no_spelling;                     /* fsyncs with too few sends: the new spelling, the old one, neither */
     uint64_t looked;                          /* objects then looked up by another spelling */
     uint64_t twice;                           /* volumes with two spellings of a name in a directory */
-    uint64_t timed, timed_sends;              /* sending calls, and what they sent; */
-    uint64_t along, overtaking;               /* of these before they were due, and while an earlier one goes on waiting */
-    uint64_t timed_cuts;                      /* cuts after a sending call */
     uint64_t sets, orders, whole, cuts, losses, fsyncs, links, calls;
 };
 extern struct counts counts;
@@ -90,8 +81,6 @@ unsigned all(void);                                        /* the operations iss
 void reckon_order(void);                                   /* fills preceding */
 int closed(unsigned set);                                  /* nothing outside the set precedes one in it */
 unsigned needed(uint64_t object);                          /* what fsync of the object sends */
-unsigned due_at(uint64_t time);                            /* what is due then, with all that precedes it */
-const struct rows *rows_for(uint64_t i);                   /* the rows that operations[i] is issued under, by turns of two tables */
 int first_call(void);                                      /* the operations issued are those of one call */
 void outcome(unsigned set, uint8_t bytes[VOLUME]);         /* the replay of the set in issue order; all of it has to apply */
 
@@ -107,11 +96,10 @@ void same(const char *what, const uint8_t *got, const uint8_t *wanted, size_t le
 void unchanged(const char *what, const struct buffers *got, const struct buffers *wanted);
 
 /* The set is sent, the others wait: the server volume is the replay of the set, the view that of all operations, and the log has
- * the others with their dependents and due times, the latest time, and the rows for the next operation. */
+ * the others with their dependents. */
 void check_waiting(const struct buffers *lent, unsigned sent, const uint32_t dependents[MOST]);
 
-/* After a cut: both volumes are the one given, and the log has the losses still to be fetched with their due times, the marks, the
- * latest time and the rows. */
+/* After a cut: both volumes are the one given, and the log has the losses still to be fetched, and the marks. */
 void check_lost(const struct buffers *lent, const uint8_t volume[VOLUME], unsigned losses, uint32_t marks);
 
 #endif

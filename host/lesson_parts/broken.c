@@ -8,8 +8,7 @@ struct burst break_by_cut(struct host *host)
 {
     struct burst burst = burst_of(host);
     uint64_t left = host->waiting_count - host->waiting_count / 3;
-    printf("\nBroken link 1, after operation %lu, at %s: the link is cut.\n", (unsigned long)host->issued_count,
-           clock_text(host->clock));
+    printf("\nBroken link 1, after operation %lu: the link is cut.\n", (unsigned long)host->issued_count);
     while (host->waiting_count > left)
         carry_one(host);
     do_cut(host);
@@ -42,8 +41,8 @@ int break_by_fsync(struct host *host, struct burst *burst)
     if (needed < 2)
         return 0;
     *burst = burst_of(host);
-    printf("\nBroken link 2, after operation %lu, at %s: %s asks for fsync of object %d.", (unsigned long)host->issued_count,
-           clock_text(host->clock), who(operation->program), (int)operation->object);
+    printf("\nBroken link 2, after operation %lu: %s asks for fsync of object %d.", (unsigned long)host->issued_count,
+           who(operation->program), (int)operation->object);
     printf(" It needs %lu sends, the link carries %lu more.\n", (unsigned long)needed, (unsigned long)(needed / 2));
     printf("  %s.\n", wb_text(do_fsync(host, operation->program, operation->object, needed / 2)));
     return 1;
@@ -165,7 +164,6 @@ void recover(struct host *host, struct class *class, const struct burst *burst, 
 {
     uint64_t program, marked = host->marked, class_set = (UINT64_C(1) << class->count) - 1;
     print_lost(host, burst, class_set);
-    compare_log(host);
     ask_marks(host);
     for (program = 0; program < WB_PROGRAMS; program++)
         if (marked >> program & 1)

@@ -25,11 +25,7 @@ uint64_t do_list(struct host *host, uint64_t program, uint64_t object);
 uint64_t do_stat(struct host *host, uint64_t program, uint64_t object);
 uint64_t do_read(struct host *host, uint64_t program, uint64_t object, uint64_t offset, uint64_t length);
 
-/* Rows and sends by the timer. The sending call has the host's own clock. */
-uint64_t do_load_rows(struct host *host, const struct rows *rows);
-uint64_t do_send_due(struct host *host);
-
-/* Other sends and the link. */
+/* Sends and the link. */
 uint64_t do_push(struct host *host, uint64_t place); /* its place among the waiting ones */
 uint64_t do_fsync(struct host *host, uint64_t program, uint64_t object, uint64_t sends);
 uint64_t do_cut(struct host *host);

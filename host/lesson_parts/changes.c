@@ -63,8 +63,7 @@ static void check_change(const struct operation *operation, struct wb_value answ
           (unsigned long long)answer.value, (int)wanted, wb_text(wanted));
 }
 
-/* What an accepted operation brings: its program depends on what reaches its operands; it waits; the host's own view has it; and
- * this decides when it is due. */
+/* What an accepted operation brings: its program depends on what reaches its operands; it waits; the host's own view has it. */
 static void now_waits(struct host *host, const struct operation *operation)
 {
     uint8_t objects[WB_MOST_OBJECTS] = {0};
@@ -75,24 +74,13 @@ static void now_waits(struct host *host, const struct operation *operation)
     add_waiting(host, operation);
     if (!replay(&host->own, operation))
         fault("operation %lu was accepted and does not apply to the host's own view", (unsigned long)operation->sequence);
-    begin_wait(host);
 }
 
-/* An accepted change tells the time. */
-static void see_clock(struct host *host, uint32_t clock)
-{
-    host->slow_clocks += clock < host->latest;
-    host->latest = told_time(host->latest, clock);
-}
-
-static uint64_t finish(struct host *host, const struct operation *operation, uint32_t clock, struct wb_value answer,
-                       uint64_t wanted)
+static uint64_t finish(struct host *host, const struct operation *operation, struct wb_value answer, uint64_t wanted)
 {
     check_change(operation, answer, wanted);
-    if (wanted == WB_ACCEPTED) {
-        see_clock(host, clock);
+    if (wanted == WB_ACCEPTED)
         now_waits(host, operation);
-    }
     return wanted;
 }
 
@@ -107,7 +95,6 @@ uint64_t do_create(struct host *host, uint64_t program, enum kind kind, uint64_t
 {
     struct operation operation = fresh(host, program, kind);
     struct wb_value answer;
-    uint32_t clock = clock_of(host, program);
     uint64_t wanted;
     operation.object = object;
     operation.parent = parent;
@@ -115,10 +102,10 @@ uint64_t do_create(struct host *host, uint64_t program, enum kind kind, uint64_t
     wanted = expected(host, &operation, name.length);
     host->taken_otherwise += wanted == WB_TAKEN && is_there_otherwise(host, parent, name);
     if (kind == CREATE_FILE)
-        CALL(host, ENTRY_CREATE, answer, wb_create(LENT(host), program, parent, name.bytes, name.length, object, clock));
+        CALL(host, ENTRY_CREATE, answer, wb_create(LENT(host), program, parent, name.bytes, name.length, object));
     else
-        CALL(host, ENTRY_MKDIR, answer, wb_mkdir(LENT(host), program, parent, name.bytes, name.length, object, clock));
-    return finish(host, &operation, clock, answer, wanted);
+        CALL(host, ENTRY_MKDIR, answer, wb_mkdir(LENT(host), program, parent, name.bytes, name.length, object));
+    return finish(host, &operation, answer, wanted);
 }
 
 /* Whether a remove is refused since its object is not of the kind that the call takes. Of what would be returned otherwise, children
@@ -140,7 +127,6 @@ uint64_t do_remove(struct host *host, uint64_t program, uint64_t kind, uint64_t 
 {
     struct operation operation = fresh(host, program, REMOVE);
     struct wb_value answer;
-    uint32_t clock = clock_of(host, program);
     uint64_t wanted;
     operation.object = sought(&host->own, parent, name.bytes, name.length);
     operation.parent = parent;
@@ -151,10 +137,10 @@ uint64_t do_remove(struct host *host, uint64_t program, uint64_t kind, uint64_t 
         count_wrong(host, operation.object);
     }
     if (kind == FILE_ENTRY)
-        CALL(host, ENTRY_REMOVE_FILE, answer, wb_remove_file(LENT(host), program, parent, name.bytes, name.length, clock));
+        CALL(host, ENTRY_REMOVE_FILE, answer, wb_remove_file(LENT(host), program, parent, name.bytes, name.length));
     else
-        CALL(host, ENTRY_REMOVE_DIRECTORY, answer, wb_remove_directory(LENT(host), program, parent, name.bytes, name.length, clock));
-    return finish(host, &operation, clock, answer, wanted);
+        CALL(host, ENTRY_REMOVE_DIRECTORY, answer, wb_remove_directory(LENT(host), program, parent, name.bytes, name.length));
+    return finish(host, &operation, answer, wanted);
 }
 
 uint64_t do_rename(struct host *host, uint64_t program, uint64_t parent, struct name name, uint64_t second_parent,
@@ -162,7 +148,6 @@ uint64_t do_rename(struct host *host, uint64_t program, uint64_t parent, struct 
 {
     struct operation operation = fresh(host, program, RENAME);
     uint64_t wanted, there = sought(&host->own, second_parent, second_name.bytes, second_name.length);
-    uint32_t clock = clock_of(host, program);
     struct wb_value answer;
     operation.object = sought(&host->own, parent, name.bytes, name.length);
     operation.parent = parent;
@@ -172,8 +157,8 @@ uint64_t do_rename(struct host *host, uint64_t program, uint64_t parent, struct 
     put_name(operation.second_name, &operation.second_name_length, second_name);
     wanted = expected(host, &operation, name.length > second_name.length ? name.length : second_name.length);
     CALL(host, ENTRY_RENAME, answer, wb_rename(LENT(host), program, parent, name.bytes, name.length, second_parent,
-                                               second_name.bytes, second_name.length, clock));
-    return finish(host, &operation, clock, answer, wanted);
+                                               second_name.bytes, second_name.length));
+    return finish(host, &operation, answer, wanted);
 }
 
 /* Across the end it is two operations, which need two slots; the number of the first is answered. */
@@ -181,7 +166,6 @@ uint64_t do_write(struct host *host, uint64_t program, uint64_t object, uint64_t
 {
     struct operation asked = fresh(host, program, offset == length_at(&host->own, object) ? APPEND : OVERWRITE), parts[2];
     struct wb_value answer;
-    uint32_t clock = clock_of(host, program);
     uint64_t wanted, count, i;
     asked.object = object;
     asked.offset = offset;
@@ -191,10 +175,8 @@ uint64_t do_write(struct host *host, uint64_t program, uint64_t object, uint64_t
     wanted = expected(host, &parts[0], 0);
     if (wanted == WB_ACCEPTED && free_slots(host) < count)
         wanted = WB_LOG_FULL;
-    CALL(host, ENTRY_WRITE, answer, wb_write(LENT(host), program, object, offset, data, length, clock));
+    CALL(host, ENTRY_WRITE, answer, wb_write(LENT(host), program, object, offset, data, length));
     check_change(&asked, answer, wanted);
-    if (wanted == WB_ACCEPTED)
-        see_clock(host, clock);
     for (i = 0; i < count && wanted == WB_ACCEPTED; i++) {
         now_waits(host, &parts[i]);
         issued_as(host, parts[i].sequence)->rest = i > 0;
@@ -206,13 +188,12 @@ uint64_t do_setlen(struct host *host, uint64_t program, uint64_t object, uint64_
 {
     struct operation operation = fresh(host, program, SET_LENGTH);
     struct wb_value answer;
-    uint32_t clock = clock_of(host, program);
     uint64_t wanted;
     operation.object = object;
     operation.offset = length;
     wanted = expected(host, &operation, 0);
-    CALL(host, ENTRY_SETLEN, answer, wb_setlen(LENT(host), program, object, length, clock));
-    return finish(host, &operation, clock, answer, wanted);
+    CALL(host, ENTRY_SETLEN, answer, wb_setlen(LENT(host), program, object, length));
+    return finish(host, &operation, answer, wanted);
 }
 
 uint64_t do_forder(struct host *host, uint64_t program, const uint64_t *list, uint64_t count)
@@ -220,7 +201,6 @@ uint64_t do_forder(struct host *host, uint64_t program, const uint64_t *list, ui
     struct operation operation = fresh(host, program, FORDER);
     uint8_t lent[2 * WB_LIST_OBJECTS];
     struct wb_value answer;
-    uint32_t clock = clock_of(host, program);
     uint64_t wanted, i;
     operation.list_length = count;
     for (i = 0; i < count; i++) {
@@ -228,6 +208,6 @@ uint64_t do_forder(struct host *host, uint64_t program, const uint64_t *list, ui
         put_number(lent + 2 * i, list[i], 2);
     }
     wanted = expected(host, &operation, 0);
-    CALL(host, ENTRY_FORDER, answer, wb_forder(LENT(host), program, lent, 2 * count, clock));
-    return finish(host, &operation, clock, answer, wanted);
+    CALL(host, ENTRY_FORDER, answer, wb_forder(LENT(host), program, lent, 2 * count));
+    return finish(host, &operation, answer, wanted);
 }

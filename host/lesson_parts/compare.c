@@ -81,29 +81,3 @@ void compare_server(struct host *host)
 }
 
 void compare_view(const struct host *host) { same_volume("the view", &host->view, &host->own); }
-
-/* A used slot has this operation, with the due time that it got when it was issued, lost or not. */
-static void same_slot(const struct host *host, uint64_t slot, const struct operation *operation)
-{
-    const uint8_t *at = host->log + WB_LOG_HEAD_BYTES + slot * WB_SLOT_BYTES;
-    uint64_t sequence = number_at(at + RECORD_AT + RECORD_SEQUENCE_AT, 4), due = number_at(at + DUE_AT, 4);
-    uint64_t wanted = issued_as(host, operation->sequence)->wait.due;
-    if (sequence != operation->sequence || due != wanted)
-        fault("slot %lu of the log has operation %lu, due at second %lu; the host has operation %lu, due at %lu", (unsigned long)slot,
-              (unsigned long)sequence, (unsigned long)due, (unsigned long)operation->sequence, (unsigned long)wanted);
-}
-
-void compare_log(const struct host *host)
-{
-    uint8_t times[TIMES_BYTES];
-    uint64_t i, used = host->lost_count + host->waiting_count;
-    put_times(rows_now(host), host->latest, times);
-    i = first_difference(host->log + TIME_AT, times, TIMES_BYTES);
-    if (i < TIMES_BYTES)
-        fault("latest time and rows: byte %lu of the log is %d; the host has %d", (unsigned long)(TIME_AT + i), host->log[TIME_AT + i],
-              times[i]);
-    for (i = 0; i < used; i++)
-        same_slot(host, i, i < host->lost_count ? host->lost[i] : host->waiting[i - host->lost_count]);
-    if (used < host->m && host->log[WB_LOG_HEAD_BYTES + used * WB_SLOT_BYTES + STATE_AT] != STATE_FREE)
-        fault("slot %lu of the log is used; the host has it free", (unsigned long)used);
-}

@@ -1,4 +1,4 @@
-/* The host's own replay of what was sent, and the comparison of volumes with it; and of the log with what the host reckons. */
+/* The host's own replay of what was sent, and the comparison of volumes with it. */
 #ifndef COMPARE_H
 #define COMPARE_H
 
@@ -11,9 +11,5 @@ void compare_server(struct host *host);
 
 /* Ends with 1 where the view lent is not the host's own. */
 void compare_view(const struct host *host);
-
-/* Ends with 1 where the log has not the latest time and the rows that the host reckons, or where its used slots are not those of the
- * losses and then of what waits, each with its due time. */
-void compare_log(const struct host *host);
 
 #endif

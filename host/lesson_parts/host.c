@@ -10,9 +10,6 @@
 #include <sys/stat.h>
 #include <unistd.h>
 
-#define EIGHT_O_CLOCK (8 * 60 * 60)
-#define SLOW_PROGRAMS 5 /* one in so many has a slow clock */
-
 void fault(const char *format, ...)
 {
     va_list values;
@@ -94,8 +91,6 @@ void open_host(struct host *host, const struct options *options)
     host->chance.state = options->seed;
     host->typing.state = ~options->seed;
     host->removal.state = options->seed ^ UINT64_C(1) << 63;
-    host->pace.state = options->seed ^ UINT64_C(1) << 62;
-    host->clock = EIGHT_O_CLOCK;
     host->server_file = options->server;
     host->measure.started = time_now();
     host->view = fresh_volume(host);
@@ -170,55 +165,22 @@ void add_waiting(struct host *host, const struct operation *operation)
     issued->rest = 0;
     issued->dependents = UINT64_C(1) << operation->program;
     issued->called = name_of(host, operation->kind == FORDER ? operation->list[0] : operation->object);
-    memset(&issued->wait, 0, sizeof issued->wait);
     host->issued[host->issued_count++] = issued;
     host->waiting[host->waiting_count++] = &issued->operation;
     if (host->waiting_count > host->most_waiting)
         host->most_waiting = host->waiting_count;
 }
 
-uint32_t clock_of(const struct host *host, uint64_t program)
-{
-    return (uint32_t)(host->clock - (program % SLOW_PROGRAMS == SLOW_PROGRAMS - 2 ? 1 + program % 4 : 0));
-}
-
-const struct rows *rows_now(const struct host *host)
-{
-    static const struct rows none;
-    return host->loaded == 0 ? &none : &host->loadings[host->loaded - 1].rows;
-}
-
-void begin_wait(struct host *host)
-{
-    struct issued *issued = issued_as(host, host->issued_count);
-    uint64_t length = length_after(&host->own, &issued->operation);
-    issued->wait.loading = host->loaded;
-    issued->wait.row = row_of(rows_now(host), length);
-    issued->wait.begun = host->latest;
-    issued->wait.due = due_time(rows_now(host), host->latest, length);
-}
-
 uint64_t free_slots(const struct host *host) { return host->m - host->waiting_count - host->lost_count; }
 
-static void end_wait(struct host *host, uint64_t sequence, enum way way)
-{
-    struct issued *issued = issued_as(host, sequence);
-    issued->state = SENT;
-    issued->wait.ended = host->clock;
-    host->ways[way]++;
-    host->along += way == BY_TIMER && issued->wait.due > host->latest;
-}
-
-void now_sent(struct host *host, const uint8_t *chosen, enum way way)
+void now_sent(struct host *host, const uint8_t *chosen)
 {
     uint64_t i, left = 0;
-    for (i = 0; i < host->waiting_count; i++) {
+    for (i = 0; i < host->waiting_count; i++)
         if (chosen[i])
-            end_wait(host, host->waiting[i]->sequence, way);
+            issued_as(host, host->waiting[i]->sequence)->state = SENT;
         else
             host->waiting[left++] = host->waiting[i];
-        host->overtaking += chosen[i] && left > 0;
-    }
     host->sent_count += host->waiting_count - left;
     host->waiting_count = left;
 }
@@ -254,41 +216,13 @@ void note_dependence(struct host *host, uint64_t program, uint8_t objects[WB_MOS
             issued_as(host, host->waiting[i]->sequence)->dependents |= UINT64_C(1) << program;
 }
 
-/* Adds all that precede the chosen ones; tells how many are chosen then. */
-static uint64_t complete(const struct host *host, uint8_t chosen[WB_MOST_SLOTS])
+uint64_t choose_needed(const struct host *host, uint64_t object, uint8_t chosen[WB_MOST_SLOTS])
 {
     uint64_t i, count = 0;
+    for (i = 0; i < host->waiting_count; i++)
+        chosen[i] = (uint8_t)has_operand(host->waiting[i], object);
     with_predecessors(host->waiting, host->waiting_count, chosen);
     for (i = 0; i < host->waiting_count; i++)
         count += chosen[i];
     return count;
-}
-
-uint64_t choose_needed(const struct host *host, uint64_t object, uint8_t chosen[WB_MOST_SLOTS])
-{
-    uint64_t i;
-    for (i = 0; i < host->waiting_count; i++)
-        chosen[i] = (uint8_t)has_operand(host->waiting[i], object);
-    return complete(host, chosen);
-}
-
-static uint64_t due_at(const struct host *host, uint64_t place)
-{
-    return issued_as(host, host->waiting[place]->sequence)->wait.due;
-}
-
-uint64_t choose_due(const struct host *host, uint64_t time, uint8_t chosen[WB_MOST_SLOTS])
-{
-    uint64_t i;
-    for (i = 0; i < host->waiting_count; i++)
-        chosen[i] = due_at(host, i) <= time;
-    return complete(host, chosen);
-}
-
-uint64_t next_due(const struct host *host)
-{
-    uint64_t i, least = WB_NEVER;
-    for (i = 0; i < host->waiting_count; i++)
-        least = due_at(host, i) < least ? due_at(host, i) : least;
-    return least;
 }

@@ -8,7 +8,6 @@
 #include "options.h"
 #include "order.h"
 #include "replay.h"
-#include "rows.h"
 
 struct name {
     uint64_t length;
@@ -20,18 +19,7 @@ enum state { WAITING, SENT, LOST, FETCHED };
 
 /* What is said when it happens for the first time. */
 enum event { FULL_NAME, LONG_NAME, LOG_FULL, NOT_FIRST, ACROSS_END, ONE_SLOT, FOUND_OTHERWISE, CASE_ALONE, TAKEN_OTHERWISE,
-    WRONG_CALL, SLOW_CLOCK, SENT_ALONG, EVENTS };
-
-/* How an operation came to the server. */
-enum way { BY_TIMER, BY_PUSH, BY_FSYNC, WAYS };
-
-/* How long an operation waits, by the host's own reckoning; times are in seconds. */
-struct wait {
-    uint64_t loading;       /* the rows that were in force when it was issued, counted from 1; 0: none were loaded yet */
-    const struct row *row;  /* the one of them that held the length then */
-    uint64_t begun, due;    /* when it was issued, and when it is due */
-    uint64_t ended;         /* when it was sent */
-};
+    WRONG_CALL, EVENTS };
 
 struct issued {
     struct operation operation;
@@ -39,14 +27,6 @@ struct issued {
     int rest;            /* it is the append of a write across the end; the overwrite has the number before */
     uint64_t dependents; /* bit p for program p, by the host's own reckoning */
     struct name called;  /* what its object was called then; of a forder the first of its list */
-    struct wait wait;
-};
-
-/* The rows that were loaded, each with the time, by the host's clock. */
-#define MOST_LOADINGS 8
-struct loading {
-    uint64_t time;
-    struct rows rows;
 };
 
 struct host {
@@ -63,15 +43,8 @@ struct host {
     const struct operation *lost[WB_MOST_SLOTS];    /* not yet fetched, in issue order */
     uint64_t lost_count;
     uint64_t marked;                 /* the programs that should be marked, bit p for program p */
-    uint64_t clock;                  /* the host's own clock, in seconds since midnight */
-    uint64_t latest;                 /* the latest time that the library was told */
-    struct loading loadings[MOST_LOADINGS];
-    uint64_t loaded;                 /* how often rows were loaded; the last ones are in force */
     uint64_t sent_count, fetched_count, most_waiting;
-    uint64_t ways[WAYS];             /* of those sent: how they were */
-    uint64_t overtaking;             /* sent while an earlier one went on waiting */
-    uint64_t along;                  /* sent by the timer before they were due, since they preceded one that was */
-    uint64_t slow_clocks;            /* accepted changes that brought an earlier time than the latest seen */
+    uint64_t pushed, overtaking;     /* sent by push; of these, sent while an earlier one waited */
     uint64_t looked_otherwise;       /* lookups that found an object by another spelling of its path */
     uint64_t taken_otherwise;        /* objects not made, since their name was there in another spelling */
     uint64_t wrong_files;            /* files given to remove directory */
@@ -81,8 +54,7 @@ struct host {
     int went_on;                     /* the file was there already */
     int happened[EVENTS];
     struct chance chance, typing;    /* how names are typed has a chance of its own, which changes nothing else; */
-    struct chance removal;           /* so has the choice between the two removals, */
-    struct chance pace;              /* and so has the time that a turn takes */
+    struct chance removal;           /* so has the choice between the two removals */
     struct measure measure;
 };
 
@@ -104,20 +76,11 @@ struct issued *issued_as(const struct host *host, uint64_t sequence);
 /* Puts an accepted operation behind the waiting ones, with its program as the only dependent. */
 void add_waiting(struct host *host, const struct operation *operation);
 
-/* The clock that a program gives with a call. Some programs have one that is slow. */
-uint32_t clock_of(const struct host *host, uint64_t program);
-
-/* The rows in force. */
-const struct rows *rows_now(const struct host *host);
-
-/* The operation issued last gets its due time, by the host's own view after it. */
-void begin_wait(struct host *host);
-
 /* The slots that neither a waiting operation nor a loss uses. */
 uint64_t free_slots(const struct host *host);
 
 /* The waiting ones that are chosen (1 where chosen) are sent and wait no longer. */
-void now_sent(struct host *host, const uint8_t *chosen, enum way way);
+void now_sent(struct host *host, const uint8_t *chosen);
 
 /* All that wait are lost; who depends on one of them should be marked. */
 void now_lost(struct host *host);
@@ -127,12 +90,6 @@ void note_dependence(struct host *host, uint64_t program, uint8_t objects[WB_MOS
 
 /* Chooses the waiting operations that an fsync of the object needs; tells how many. */
 uint64_t choose_needed(const struct host *host, uint64_t object, uint8_t chosen[WB_MOST_SLOTS]);
-
-/* Chooses the waiting operations that are due at a time, with all that precede them; tells how many. */
-uint64_t choose_due(const struct host *host, uint64_t time, uint8_t chosen[WB_MOST_SLOTS]);
-
-/* The earliest due time of what waits; WB_NEVER if nothing waits that becomes due. */
-uint64_t next_due(const struct host *host);
 
 /* The name of an object by the host's own view, and whether a name that leads to it is spelt in another way. */
 struct name name_of(const struct host *host, uint64_t object);

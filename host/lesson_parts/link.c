@@ -1,27 +1,26 @@
 #include "link.h"
-#include "naming.h"
 
-#define LEAST_TURN 125
-#define MOST_TURN 4000
-#define SECOND 1000
-#define TURNS_A_PUSH 12
+#define TURNS_HELD 100
+#define MOST_CALM 200
 
-/* A small class has more time for a turn, so that as many seconds pass. */
+static uint64_t between(uint64_t least, uint64_t number, uint64_t most)
+{
+    return number < least ? least : number > most ? most : number;
+}
+
 void begin_link(struct link *link, uint64_t operations)
 {
-    link->turn = 300000 / operations;
-    if (link->turn < LEAST_TURN)
-        link->turn = LEAST_TURN;
-    if (link->turn > MOST_TURN)
-        link->turn = MOST_TURN;
-    link->passed = 0;
+    link->most = between(1, operations / 5 + 4, WB_MOST_SLOTS);
+    link->calm = between(8, operations / 60, MOST_CALM);
+    link->aim = link->most / 4;
+    link->held = 0;
 }
 
 /* Goes from one that is chosen at random, earlier ones more often, back to one that nothing holds. */
 void carry_one(struct host *host)
 {
     uint64_t place = below(&host->chance, 1 + below(&host->chance, host->waiting_count)), before = host->n;
-    int hasty = one_in(&host->chance, 6);
+    int hasty = one_in(&host->chance, 20);
     unsigned long sequence;
     while (!hasty && before != place) {
         before = place;
@@ -33,41 +32,29 @@ void carry_one(struct host *host)
                (unsigned long)host->waiting[holder(host, place)]->sequence, wb_text(WB_NOT_FIRST));
 }
 
-/* The timer. Where something goes before it is due, that is said once. */
-static void tick(struct host *host)
+static void next_aim(struct host *host, struct link *link)
 {
-    uint64_t sent = host->sent_count, along = host->along, due;
-    do_send_due(host);
-    along = host->along - along;
-    due = host->sent_count - sent - along;
-    if (along > 0 && first_time(host, SENT_ALONG))
-        printf("At %s the timer sends %lu operation%s that %s due, and with %s %lu that precede%s %s.\n", clock_text(host->clock),
-               (unsigned long)due, plural(due), due == 1 ? "is" : "are", due == 1 ? "it" : "them", (unsigned long)along,
-               along == 1 ? "s" : "", due == 1 ? "it" : "one");
+    static const uint64_t parts[] = {1, 8, 32, 80, 128, 128}; /* of 128 */
+    link->aim = link->most * parts[below(&host->chance, sizeof parts / sizeof parts[0])] / 128;
+    link->held = 0;
 }
 
-void carry(struct host *host, struct link *link)
+void carry(struct host *host, struct link *link, int soon)
 {
-    link->passed += below(&host->pace, 2 * link->turn + 1);
-    for (; link->passed >= SECOND; link->passed -= SECOND) {
-        host->clock++;
-        tick(host);
-    }
-    if (host->waiting_count > 0 && one_in(&host->chance, TURNS_A_PUSH))
+    uint64_t i, sends = 3, aim = soon ? link->calm : link->aim;
+    if (host->waiting_count <= aim)
+        sends = one_in(&host->chance, soon ? 8 : 4) ? 1 : 0;
+    for (i = 0; i < sends && host->waiting_count > 0; i++)
         carry_one(host);
+    link->held += host->waiting_count + 4 >= aim && host->waiting_count <= aim + 4;
+    if (link->held > TURNS_HELD)
+        next_aim(host, link);
 }
 
-uint64_t carry_all(struct host *host)
+void carry_all(struct host *host)
 {
-    uint64_t sent = host->sent_count, due;
-    while ((due = next_due(host)) < WB_NEVER) {
-        host->clock = told_time(host->clock, due);
-        do_send_due(host);
-    }
-    sent = host->sent_count - sent;
     while (host->waiting_count > 0)
         carry_one(host);
-    return sent;
 }
 
 struct burst burst_of(const struct host *host)

@@ -1,12 +1,12 @@
-/* The link to the server. A timer makes the sending call once a second; now and then an operation is pushed besides. */
+/* The link to the server: it carries waiting operations one by one, in random order, at times fast and at times slowly. */
 #ifndef LINK_H
 #define LINK_H
 
 #include "calls.h"
 
 struct link {
-    uint64_t turn;   /* the time that a pupil's turn takes in the mean, in milliseconds */
-    uint64_t passed; /* the part of the present second that has passed, likewise */
+    uint64_t most, calm; /* the most operations that it lets wait, and how many about when it breaks */
+    uint64_t aim, held;  /* how many it lets wait now, and for how many turns it has done so */
 };
 
 /* What waited when the last sends before a broken link began: sequence numbers. */
@@ -16,15 +16,14 @@ struct burst {
 
 void begin_link(struct link *link, uint64_t operations);
 
-/* Tries to push one waiting operation. It is mostly one that can go now, and now and then one that may be behind another. */
+/* Tries to send one waiting operation. It is mostly one that can go now, and now and then one that may be behind another. */
 void carry_one(struct host *host);
 
-/* What the link carries in the time that a turn takes. */
-void carry(struct host *host, struct link *link);
+/* What the link carries between two turns. When it is soon to break it lets about `calm` operations wait. */
+void carry(struct host *host, struct link *link, int soon);
 
-/* Sends all that waits: the clock goes on from one due time to the next, and what never becomes due is pushed. Tells how many
- * were sent before any was pushed. */
-uint64_t carry_all(struct host *host);
+/* Sends all that waits. */
+void carry_all(struct host *host);
 
 struct burst burst_of(const struct host *host);
 

@@ -8,7 +8,7 @@ const char *entry_text(enum entry entry)
 {
     static const char *const texts[ENTRIES] = {"wb_format", "wb_mount", "wb_lookup", "wb_list", "wb_stat", "wb_read", "wb_create",
         "wb_mkdir", "wb_remove_file", "wb_remove_directory", "wb_rename", "wb_write", "wb_setlen", "wb_forder", "wb_push",
-        "wb_fsync", "wb_load_rows", "wb_send_due", "wb_cut", "wb_take", "wb_renew"};
+        "wb_fsync", "wb_cut", "wb_take", "wb_renew"};
     return texts[entry];
 }
 
@@ -25,7 +25,7 @@ void end_call(struct measure *measure, enum entry entry, uint64_t returned)
 {
     measure->entries[entry].time += time_now() - measure->begun;
     measure->entries[entry].calls++;
-    measure->entries[entry].returned[returned < RETURNED ? returned : WB_BAD_RECORD]++;
+    measure->entries[entry].returned[returned <= WB_BAD_RECORD ? returned : WB_BAD_RECORD]++;
     measure->calls++;
 }
 

@@ -7,19 +7,16 @@
 
 enum entry {
     ENTRY_FORMAT, ENTRY_MOUNT, ENTRY_LOOKUP, ENTRY_LIST, ENTRY_STAT, ENTRY_READ, ENTRY_CREATE, ENTRY_MKDIR, ENTRY_REMOVE_FILE,
-    ENTRY_REMOVE_DIRECTORY, ENTRY_RENAME, ENTRY_WRITE, ENTRY_SETLEN, ENTRY_FORDER, ENTRY_PUSH, ENTRY_FSYNC, ENTRY_LOAD_ROWS,
-    ENTRY_SEND_DUE, ENTRY_CUT, ENTRY_TAKE, ENTRY_RENEW, ENTRIES
+    ENTRY_REMOVE_DIRECTORY, ENTRY_RENAME, ENTRY_WRITE, ENTRY_SETLEN, ENTRY_FORDER, ENTRY_PUSH, ENTRY_FSYNC, ENTRY_CUT, ENTRY_TAKE,
+    ENTRY_RENEW, ENTRIES
 };
-
-/* The returned numbers are below this. */
-#define RETURNED (WB_BAD_SECONDS + 1)
 
 struct measure {
     uint64_t begun;                                 /* the time when the call now under way began */
     uint64_t calls;
     struct {
         uint64_t calls, time;                       /* times are in nanoseconds */
-        uint64_t returned[RETURNED];
+        uint64_t returned[WB_BAD_RECORD + 1];
     } entries[ENTRIES];
     uint64_t floors, floor_time, least_floor, kept; /* the results of | are kept, so that it is not left out */
     uint64_t started;                               /* when the lesson began */

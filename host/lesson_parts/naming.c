@@ -23,13 +23,6 @@ const char *who(uint64_t program)
 
 const char *plural(uint64_t number) { return number == 1 ? "" : "s"; }
 
-const char *clock_text(uint64_t clock)
-{
-    static char words[40];
-    snprintf(words, sizeof words, "%lu:%02d:%02d", (unsigned long)(clock / 3600), (int)(clock / 60 % 60), (int)(clock % 60));
-    return words;
-}
-
 void say_name(uint64_t program, struct name name, const char *what, const char *why)
 {
     printf("%s creates \"", who(program));

@@ -13,9 +13,6 @@ const char *who(uint64_t program);
 /* The ending of a word for things of this number. */
 const char *plural(uint64_t number);
 
-/* A time of the host's clock as hours, minutes and seconds, in words that stay until the next call. */
-const char *clock_text(uint64_t clock);
-
 /* Prints a line: what became of the name that the program asked for, and why. */
 void say_name(uint64_t program, struct name name, const char *what, const char *why);
 

@@ -1,4 +1,4 @@
-/* Rows, sends, the cut of the link, and losses. */
+/* Sends, the cut of the link, and losses. */
 #include "calls.h"
 #include <string.h>
 
@@ -8,36 +8,6 @@ void check_answer(const char *asked, uint64_t program, uint64_t object, struct w
         fault("%s by program %d of object %d: returned %d, %s, with value %llu; expected was %d, %s, with value %llu", asked,
               (int)program, (int)object, (int)answer.returned, wb_text(answer.returned), (unsigned long long)answer.value,
               (int)expected.returned, wb_text(expected.returned), (unsigned long long)expected.value);
-}
-
-uint64_t do_load_rows(struct host *host, const struct rows *rows)
-{
-    uint8_t lent[WB_ROWS * WB_ROW_BYTES];
-    uint64_t expected = rows_refusal(rows), length = put_rows(rows, lent);
-    struct wb_code answer;
-    CALL(host, ENTRY_LOAD_ROWS, answer, wb_load_rows(LENT(host), lent, length));
-    if (answer.returned != expected)
-        fault("wb_load_rows of %d rows returned %d, %s; expected was %d, %s", (int)rows->count, (int)answer.returned,
-              wb_text(answer.returned), (int)expected, wb_text(expected));
-    if (expected == WB_ACCEPTED) {
-        host->loadings[host->loaded].time = host->clock;
-        host->loadings[host->loaded++].rows = *rows;
-    }
-    return expected;
-}
-
-uint64_t do_send_due(struct host *host)
-{
-    uint8_t chosen[WB_MOST_SLOTS];
-    uint64_t time = told_time(host->latest, host->clock), count = choose_due(host, time, chosen);
-    struct wb_value answer;
-    CALL(host, ENTRY_SEND_DUE, answer, wb_send_due(LENT(host), (uint32_t)host->clock));
-    if (answer.returned != WB_ACCEPTED || answer.value != count)
-        fault("the sending call at second %lu returned %d, %s, with %lu sends; expected were %lu", (unsigned long)host->clock,
-              (int)answer.returned, wb_text(answer.returned), (unsigned long)answer.value, (unsigned long)count);
-    host->latest = time;
-    now_sent(host, chosen, BY_TIMER);
-    return answer.returned;
 }
 
 uint64_t holder(const struct host *host, uint64_t place)
@@ -68,7 +38,9 @@ uint64_t do_push(struct host *host, uint64_t place)
     if (answer.returned != WB_ACCEPTED)
         return answer.returned;
     chosen[place] = 1;
-    now_sent(host, chosen, BY_PUSH);
+    now_sent(host, chosen);
+    host->pushed++;
+    host->overtaking += place > 0;
     return answer.returned;
 }
 
@@ -92,7 +64,7 @@ uint64_t do_fsync(struct host *host, uint64_t program, uint64_t object, uint64_t
     objects[object] = 1;
     note_dependence(host, program, objects);
     keep_first(chosen, host->waiting_count, expected.value);
-    now_sent(host, chosen, BY_FSYNC);
+    now_sent(host, chosen);
     if (answer.returned == WB_LINK_LOST)
         now_lost(host);
     return answer.returned;

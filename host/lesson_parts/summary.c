@@ -5,7 +5,7 @@
 static void print_refusals(const struct host *host, enum entry entry)
 {
     uint64_t returned, count;
-    for (returned = 1; returned < RETURNED; returned++) {
+    for (returned = 1; returned <= WB_BAD_RECORD; returned++) {
         count = host->measure.entries[entry].returned[returned];
         if (count > 0)
             printf("  %d: %lu", (int)returned, (unsigned long)count);
@@ -32,7 +32,7 @@ static void print_meanings(const struct host *host)
     uint64_t returned, count;
     int entry;
     printf("  returned\n");
-    for (returned = 1; returned < RETURNED; returned++) {
+    for (returned = 1; returned <= WB_BAD_RECORD; returned++) {
         count = 0;
         for (entry = 0; entry < ENTRIES; entry++)
             count += host->measure.entries[entry].returned[returned];
@@ -107,15 +107,6 @@ static void print_removals(const struct host *host)
            (unsigned long)host->wrong_empty, (unsigned long)host->wrong_filled);
 }
 
-static void print_sends(const struct host *host)
-{
-    printf("  sent: %lu, of which %lu by the sending call, %lu by push and %lu by fsync; %lu went before one that was issued earlier\n",
-           (unsigned long)host->sent_count, (unsigned long)host->ways[BY_TIMER], (unsigned long)host->ways[BY_PUSH],
-           (unsigned long)host->ways[BY_FSYNC], (unsigned long)host->overtaking);
-    printf("  sent by the sending call before they were due, since they preceded one that was: %lu\n", (unsigned long)host->along);
-    printf("  changes whose clock was behind the latest time: %lu\n", (unsigned long)host->slow_clocks);
-}
-
 static uint64_t questions(const struct measure *measure)
 {
     return measure->entries[ENTRY_LOOKUP].calls + measure->entries[ENTRY_LIST].calls + measure->entries[ENTRY_STAT].calls
@@ -132,7 +123,9 @@ void print_summary(const struct host *host, const struct class *class)
     print_across(host);
     print_spellings(host);
     print_removals(host);
-    print_sends(host);
+    printf("  sent: %lu, of which %lu by push and %lu by fsync; %lu went before one that was issued earlier\n",
+           (unsigned long)host->sent_count, (unsigned long)host->pushed, (unsigned long)(host->sent_count - host->pushed),
+           (unsigned long)host->overtaking);
     printf("  lost: %lu, each fetched as a loss record\n", (unsigned long)host->fetched_count);
     printf("  calls: %lu, of which %lu questions; every answer was as the host expected\n", (unsigned long)measure->calls,
            (unsigned long)questions(measure));

@@ -3,7 +3,6 @@
 
 use crate::builder::{hex, Builder, BLOCK};
 use crate::runs;
-use crate::waits;
 use second::geometry::LONGEST_RECORD;
 use second::log::{Slot, State};
 
@@ -23,7 +22,7 @@ pub fn across(builder: &mut Builder) {
         runs::send_all(builder);
     }
     let mut takes = 1;
-    for _ in 0..builder.rounds(9) {
+    for _ in 0..9 {
         scene(builder, &mut takes);
     }
 }
@@ -35,7 +34,6 @@ fn scene(builder: &mut Builder, takes: &mut usize) {
     for file in FILES {
         set_up(builder, file);
     }
-    waits::load(builder);
     let m = builder.geometry().m;
     let free = builder.random.weighted(&[(3, 0), (4, 1), (6, 2), (4, 3), (4, m)]).min(m);
     builder.comment(&format!("Free slots: {free}."));
@@ -156,8 +154,7 @@ fn plain(builder: &mut Builder, file: u64) {
 fn go_on(builder: &mut Builder, file: u64) {
     let program = runs::program(builder, PROGRAMS);
     let length = builder.length_of(file);
-    let line = match builder.random.weighted(&[(5, 0), (3, 1), (2, 2), (2, 3), (1, 4), (4, 5), (5, 6), (1, 7), (1, 8)])
-    {
+    let line = match builder.random.weighted(&[(5, 0), (3, 1), (2, 2), (2, 3), (1, 4), (4, 5), (5, 6), (1, 7)]) {
         0 => write_across(builder, program, file),
         1 => return plain(builder, file),
         2 => {
@@ -177,7 +174,6 @@ fn go_on(builder: &mut Builder, file: u64) {
             ])
         }
         6 => return push(builder),
-        8 => "due".to_string(),
         _ => {
             let other = builder.random.pick(&FILES);
             write_across(builder, program, other)
@@ -199,12 +195,7 @@ fn push(builder: &mut Builder) {
 fn finish(builder: &mut Builder, file: u64) {
     let program = runs::program(builder, PROGRAMS);
     let d = builder.needed(file);
-    match builder.random.below(7) {
-        6 => {
-            builder.comment("What is due a little later is sent.");
-            builder.time += builder.random.between(1, 9);
-            builder.call("due");
-        }
+    match builder.random.below(6) {
         0 => {
             builder.comment("All is sent, in random order.");
             for _ in 0..40 {
@@ -249,7 +240,7 @@ fn look_back(builder: &mut Builder, file: u64, takes: &mut usize) {
     }
     let offset = builder.length_of(file).saturating_sub(9);
     builder.say(&format!("read 20 {file} {offset} {}", hex(&[0xee; 10])));
-    builder.say("show l 0 12");
+    builder.say("show l 0 40");
     let log = builder.log().unwrap_or_default();
     let own = |slot: &&Slot, program: u64| slot.state == State::Lost && slot.record.program as u64 == program;
     let losses = |program: u64| log.slots.iter().filter(|slot| own(slot, program)).count();

@@ -6,9 +6,8 @@ use second::log::Log;
 use second::order::with_predecessors;
 use second::player::{Outcome, Player};
 use second::record::Record;
-use second::script::{to_hexadecimal, COMMANDS};
+use second::script::to_hexadecimal;
 use second::volume::Volume;
-use second::waits::LAST_TIME;
 
 /// The bytes of one block, as wide as the offsets and lengths of calls.
 pub const BLOCK: u64 = geometry::BLOCK as u64;
@@ -17,23 +16,13 @@ pub struct Builder {
     pub seed: u64,
     pub random: Random,
     pub player: Player,
-    /// The time by the script's clocks.
-    pub time: u64,
-    /// The share of the full length, in percent.
-    share: u64,
     text: String,
     calls: usize,
 }
 
 impl Builder {
-    pub fn new(seed: u64, share: u64) -> Builder {
-        let (random, player) = (Random::new(seed), Player::default());
-        Builder { seed, random, player, time: 0, share, text: String::new(), calls: 0 }
-    }
-
-    /// How often to do what is done so often at full length.
-    pub fn rounds(&self, full: u64) -> u64 {
-        (full * self.share / 100).max(1)
+    pub fn new(seed: u64) -> Builder {
+        Builder { seed, random: Random::new(seed), player: Player::default(), text: String::new(), calls: 0 }
     }
 
     pub fn text(&self) -> &str {
@@ -44,29 +33,8 @@ impl Builder {
         self.text += &format!("# {text}\n");
     }
 
-    /// The clock of the next call. It mostly goes on by a little, and at times runs back.
-    pub fn clock(&mut self) -> u64 {
-        let back = self.random.between(1, 30);
-        let on = self.random.between(1, 3);
-        self.time += self.random.weighted(&[(7, 0), (10, on), (1, back)]);
-        let clock = if self.random.chance(6) { self.time.saturating_sub(back) } else { self.time };
-        clock.min(LAST_TIME as u64)
-    }
-
-    /// The line with a clock, where a change or forder lacks one.
-    fn timed(&mut self, line: &str) -> String {
-        let words: Vec<&str> = line.split(' ').collect();
-        let lacks =
-            |(name, shape): &(&str, &str)| *name == words[0] && shape.ends_with('c') && shape.len() == words.len();
-        match COMMANDS.iter().any(lacks) {
-            true => format!("{line} {}", self.clock()),
-            false => line.to_string(),
-        }
-    }
-
-    /// Adds a line, with a clock where it lacks one, and gives the code that it prints, or 0.
+    /// Adds a line and gives the code that it prints, or 0.
     pub fn say(&mut self, line: &str) -> u64 {
-        let line = self.timed(line);
         self.text += &format!("{line}\n");
         match self.player.play_line(line.as_bytes()) {
             Outcome::Prints(text) => text.split(' ').next().and_then(|word| word.parse().ok()).unwrap_or(0),

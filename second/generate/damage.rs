@@ -3,9 +3,8 @@
 use crate::builder::{hex, Builder, BLOCK};
 use crate::limits;
 use crate::runs;
-use crate::waits;
 use second::geometry::{ENTRY_HEAD, LOG_HEAD, SLOT};
-use second::log::{COUNT_AT, DEPENDENTS_AT, DUE_AT, LATEST_AT, RECORD_AT, ROWS_AT};
+use second::log::{DEPENDENTS_AT, RECORD_AT};
 use second::names::LONGEST_NAME;
 use second::volume::{LENGTH_AT, NAME_AT, NAME_LENGTH_AT, PARENT_AT};
 
@@ -13,10 +12,10 @@ use second::volume::{LENGTH_AT, NAME_AT, NAME_LENGTH_AT, PARENT_AT};
 pub fn damage(builder: &mut Builder) {
     let (n, b, m) = builder.random.pick(&[(6, 1, 5), (5, 2, 4), (8, 1, 7)]);
     builder.comment(&format!("Damaged buffers, with n = {n}, b = {b}, m = {m}."));
-    for _ in 0..builder.rounds(3) {
+    for _ in 0..3 {
         begin(builder, n, b, m);
         builder.comment("One damage after another, each undone before the next.");
-        for _ in 0..builder.rounds(45).max(30) {
+        for _ in 0..45 {
             one_damage(builder);
         }
         builder.say("digest");
@@ -54,7 +53,7 @@ fn one_damage(builder: &mut Builder) {
 /// A call that is refused with 2 if the form is broken; says whether it was.
 pub fn any_call(builder: &mut Builder) -> bool {
     let program = builder.random.pick(&[0, 1, 2, 31]);
-    let line = match builder.random.below(19) {
+    let line = match builder.random.below(17) {
         0 => "mount".to_string(),
         1 => "cut".to_string(),
         2 => format!("renew {program}"),
@@ -71,8 +70,6 @@ pub fn any_call(builder: &mut Builder) -> bool {
         13 => format!("forder {program} =0000"),
         14 => "push 1".to_string(),
         15 => format!("stat {program} 0"),
-        16 => waits::line(&[[0, 65_536, 9]]),
-        17 => "due".to_string(),
         _ => format!("fsync {program} 0 9"),
     };
     builder.call(&line) == 2
@@ -87,29 +84,9 @@ fn spot(builder: &mut Builder) -> (&'static str, usize) {
         let slot = builder.random.below((slots + 1).min(geometry.m as u64)) as usize;
         let slot_head = [0, 1, DEPENDENTS_AT - 1, DEPENDENTS_AT, RECORD_AT - 1];
         let record = [0, 1, 2, 5, 6, 7, 8, 9, 10, 12, 14, 15, 16, 17, 32].map(|at| RECORD_AT + at);
-        let within = builder.random.pick(&[slot_head.as_slice(), &record, &[DUE_AT - 1, DUE_AT, SLOT - 1]].concat());
-        let rows = builder.log().map_or(0, |log| log.rows.len());
-        let row = ROWS_AT + 12 * builder.random.below(rows as u64 + 1) as usize;
-        let head = builder.random.pick(&[
-            0,
-            3,
-            4,
-            LATEST_AT - 1,
-            LATEST_AT,
-            COUNT_AT - 1,
-            COUNT_AT,
-            COUNT_AT + 1,
-            COUNT_AT + 3,
-            row,
-            row + 1,
-            row + 4,
-            row + 6,
-            row + 8,
-            row + 9,
-            row + 11,
-            LOG_HEAD - 1,
-        ]);
-        return (area, builder.random.weighted(&[(3, head), (9, LOG_HEAD + slot * SLOT + within)]));
+        let within = builder.random.pick(&[slot_head.as_slice(), &record, &[SLOT - 1]].concat());
+        let head = builder.random.pick(&[0, 3, 4, LOG_HEAD - 1]);
+        return (area, builder.random.weighted(&[(1, head), (9, LOG_HEAD + slot * SLOT + within)]));
     }
     let object = builder.random.below(geometry.n as u64) as usize;
     let length = builder.length_of(object as u64) as usize;
@@ -145,7 +122,6 @@ fn restore(builder: &mut Builder) {
 fn begin(builder: &mut Builder, n: u64, b: u64, m: u64) {
     builder.begin(n, b, m);
     runs::populate(builder);
-    waits::load(builder);
     for program in [3, 4] {
         runs::change(builder, program);
     }
@@ -224,11 +200,11 @@ pub fn sizes(builder: &mut Builder) {
 /// Everything in order again, and geometries at the limits.
 fn good_sizes(builder: &mut Builder) {
     builder.comment("Several calls near the limits with everything in order again.");
-    for _ in 0..builder.rounds(30) {
+    for _ in 0..30 {
         limits::near(builder);
     }
     builder.comment("The smallest geometry, and the largest that the areas hold.");
-    for (n, b, m) in [(2, 1, 1), (30, 1, 30), (2, 15, 30), (15, 2, 1)] {
+    for (n, b, m) in [(2, 1, 1), (30, 1, 31), (2, 15, 31), (15, 2, 1)] {
         builder.begin(n, b, m);
         for program in 0..6 {
             runs::change(builder, program);
@@ -258,9 +234,6 @@ fn calls_of_every_kind(builder: &mut Builder) {
         "cut",
         "take 0 =",
         "renew 99",
-        "rows =00",
-        "rows =000000000000010009000000",
-        "due",
     ];
     for line in lines {
         builder.say(line);

@@ -2,7 +2,6 @@
 
 use crate::builder::{hex, Builder, BLOCK};
 use crate::runs;
-use crate::waits;
 use second::names::{LONGEST_NAME, LONGEST_PATH};
 
 /// Numbers around the limits of 1, 2, 4 and 8 bytes.
@@ -12,12 +11,11 @@ const WIDE: [u64; 10] =
 /// Sets up a volume with something of everything, then makes calls with arguments near the limits, and puts the
 /// state back from time to time.
 pub fn limits(builder: &mut Builder) {
-    let (n, b, m) = builder.random.pick(&[(9, 2, 7), (8, 1, 6), (10, 3, 9), (2, 1, 1), (2, 15, 2), (30, 1, 30)]);
+    let (n, b, m) = builder.random.pick(&[(9, 2, 7), (8, 1, 6), (10, 3, 9), (2, 1, 1), (2, 15, 2), (30, 1, 31)]);
     builder.comment(&format!("Arguments at and around their limits, with n = {n}, b = {b}, m = {m}."));
-    for _ in 0..builder.rounds(5) {
+    for _ in 0..5 {
         builder.begin(n, b, m);
         runs::populate(builder);
-        waits::load(builder);
         for program in 0..8 {
             runs::change(builder, program % 4);
         }
@@ -37,7 +35,7 @@ pub fn limits(builder: &mut Builder) {
 /// One call with arguments near their limits.
 pub fn near(builder: &mut Builder) {
     let program = program(builder);
-    let line = match builder.random.below(19) {
+    let line = match builder.random.below(17) {
         0 => format!("lookup {program} {}", hex(&path(builder))),
         1 => list(builder, program),
         2 => format!("stat {program} {}", object(builder)),
@@ -61,20 +59,9 @@ pub fn near(builder: &mut Builder) {
         13 => push(builder),
         14 => fsync(builder, program),
         15 => format!("take {program} {}", hex(&vec![0xee; builder.random.pick(&[0, 8, 40]) as usize])),
-        16 => waits::any_line(builder),
-        17 => due(builder),
         _ => format!("renew {program}"),
     };
     builder.call(&line);
-}
-
-/// What is due just before, at and after the time of a waiting operation, or by a clock near its limits.
-fn due(builder: &mut Builder) -> String {
-    let log = builder.log().unwrap_or_default();
-    let times: Vec<u32> = log.slots.iter().map(|slot| slot.due).chain([0, log.latest, u32::MAX]).collect();
-    let time = builder.random.pick(&times);
-    let clock = builder.random.pick(&[time, time.saturating_sub(1), time.saturating_add(1)]);
-    format!("due {clock}")
 }
 
 /// A program near 32, mostly a good one.

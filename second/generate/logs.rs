@@ -4,10 +4,9 @@
 use crate::builder::{hex, Builder};
 use crate::records::valid;
 use crate::runs;
-use crate::waits;
 use second::apply::{applies, apply};
 use second::geometry::{ENTRY_HEAD, LOG_HEAD, SLOT};
-use second::log::{Log, Slot, State, DUE_AT};
+use second::log::{Log, Slot, State};
 use second::record::Record;
 use second::volume::{Volume, FILE, LENGTH_AT};
 
@@ -16,7 +15,7 @@ pub fn logs(builder: &mut Builder) {
     builder.comment(&format!("Logs that no run produces, with n = {n}, b = {b}, m = {m}."));
     builder.begin(n, b, m);
     runs::populate(builder);
-    for _ in 0..builder.rounds(10) {
+    for _ in 0..10 {
         builder.comment("Another log over the server volume as it stands.");
         builder.say("mount");
         let sensible = builder.random.pick(&[0, 60, 90]);
@@ -67,9 +66,9 @@ fn turned(builder: &mut Builder) {
     builder.say("digest");
 }
 
-/// Writes a random log: lost slots, then waiting ones, rising numbers with gaps, any dependents, marks and due times.
+/// Writes a random log: lost slots, then waiting ones, rising numbers with gaps, any dependents and marks.
 /// The given share of the waiting ones makes sense one after another.
-pub fn poke_log(builder: &mut Builder, sensible: u64) {
+fn poke_log(builder: &mut Builder, sensible: u64) {
     let geometry = builder.geometry();
     let count = builder.random.between(geometry.m as u64 / 2, geometry.m as u64) as usize;
     let lost = builder.random.below(count as u64 / 2 + 1) as usize;
@@ -84,21 +83,16 @@ pub fn poke_log(builder: &mut Builder, sensible: u64) {
         let any = builder.random.number() as u32;
         let own = 1 << record.program;
         let dependents = if at < lost { 0 } else { builder.random.pick(&[own, own, 0, any & any >> 7, u32::MAX]) };
-        let near = builder.time as u32 + builder.random.below(20) as u32;
-        let due = builder.random.pick(&[0, near, near, near, any, u32::MAX]);
-        slots.push(Slot { state, dependents, record, due });
+        slots.push(Slot { state, dependents, record });
     }
     let marks = builder.random.pick(&[0, 0, 4, 8, 1 << 31]);
     let next = builder.random.pick(&[sequence + 1, sequence + 9, 4_294_967_295]);
     let mut bytes = vec![0; geometry.log_length()];
-    let latest = builder.random.pick(&[0, 0, builder.time as u32, u32::MAX - 5]);
-    let rows = if builder.random.chance(50) { waits::some(builder) } else { Vec::new() };
-    Log { next, marks, latest, rows, slots }.write(&mut bytes);
+    Log { next, marks, slots }.write(&mut bytes);
     builder.poke("l", 0, &bytes[..LOG_HEAD]);
     for slot in 0..count {
         let at = LOG_HEAD + slot * SLOT;
-        builder.poke("l", at, &bytes[at..at + DUE_AT]);
-        builder.poke("l", at + DUE_AT, &bytes[at + DUE_AT..at + SLOT]);
+        builder.poke("l", at, &bytes[at..at + SLOT]);
     }
 }
 
@@ -127,12 +121,11 @@ fn use_log(builder: &mut Builder) {
         let program = builder.random.pick(&[0, 1, 3, 31]);
         runs::question(builder, program);
     }
-    for _ in 0..builder.rounds(14).max(8) {
+    for _ in 0..14 {
         let program = builder.random.pick(&[0, 1, 3, 31]);
         match builder.random.below(10) {
             0..=4 => runs::push(builder),
-            5 => runs::send(builder, program),
-            6 => drop(builder.call("due")),
+            5..=6 => runs::send(builder, program),
             7 => runs::change(builder, program),
             _ => {
                 let waiting = builder.waiting();

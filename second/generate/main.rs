@@ -1,6 +1,5 @@
-//! A seeded generator of call scripts: `generate KIND SEED [SHARE]` prints one script, the same bytes for the same seed
-//! and share. The kinds are listed in [`KINDS`]; the share is that of the full length in percent, 100 if it is not
-//! given. `cases/seeds` says which of them are stored.
+//! A seeded generator of call scripts: `generate KIND SEED` prints one script, the same bytes for the same seed.
+//! The kinds are listed in [`KINDS`]; `cases/seeds` says which of them are stored.
 #![forbid(unsafe_code)]
 
 mod across;
@@ -14,7 +13,6 @@ mod random;
 mod records;
 mod runs;
 mod spelling;
-mod waits;
 
 use builder::Builder;
 use std::io::Write;
@@ -23,7 +21,7 @@ use std::io::Write;
 type Maker = fn(&mut Builder);
 
 /// The kinds of script, and what makes each.
-const KINDS: [(&str, Maker); 14] = [
+const KINDS: [(&str, Maker); 12] = [
     ("run", runs::run),
     ("fill", runs::fill),
     ("files", runs::files),
@@ -32,8 +30,6 @@ const KINDS: [(&str, Maker); 14] = [
     ("limits", limits::limits),
     ("damage", damage::damage),
     ("sizes", damage::sizes),
-    ("rows", waits::rows),
-    ("due", waits::due),
     ("logs", logs::logs),
     ("records", records::records),
     ("pairs", pairs::pairs),
@@ -44,14 +40,13 @@ fn main() -> std::io::Result<()> {
     let words: Vec<String> = std::env::args().skip(1).collect();
     let kind = words.first().and_then(|word| KINDS.iter().find(|(name, _)| name == word));
     let seed = words.get(1).and_then(|word| word.parse().ok());
-    let share = words.get(2).map_or(Some(100), |word| word.parse().ok());
-    let (Some((_, make)), Some(seed), Some(share), true) = (kind, seed, share, words.len() <= 3) else {
+    let (Some((name, make)), Some(seed)) = (kind, seed) else {
         let names: Vec<&str> = KINDS.iter().map(|(name, _)| *name).collect();
-        eprintln!("usage: generate {} SEED [SHARE]", names.join("|"));
+        eprintln!("usage: generate {} SEED", names.join("|"));
         std::process::exit(2);
     };
-    let mut builder = Builder::new(seed, share);
-    builder.comment(&format!("Made by: generate {}", words.join(" ")));
+    let mut builder = Builder::new(seed);
+    builder.comment(&format!("Made by: generate {name} {seed}"));
     make(&mut builder);
     std::io::stdout().write_all(builder.text().as_bytes())
 }

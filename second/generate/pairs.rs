@@ -1,5 +1,5 @@
 //! Every pair of kinds in the precedence rule: ordered directly, through a chain, or free, with the earlier one
-//! waiting and with it sent. The seed says which kind is the earlier one, or that it is two overwrites of one file.
+//! waiting and with it sent.
 //!
 //! Every pair starts from the same volume. Directory 1 (d) holds the file 3 (x) and the file 5 (v), both of 8
 //! bytes; directory 2 (e) holds the files 4 (x) and 6 (v) likewise. Objects 7 to 11 are free.
@@ -19,15 +19,16 @@ const FIRST: Side = Side { directory: 1, file: 3, fresh: 7 };
 const SECOND: Side = Side { directory: 2, file: 4, fresh: 8 };
 
 pub fn pairs(builder: &mut Builder) {
-    let part = builder.seed as usize % (Kind::ALL.len() + 1);
-    let Some(&earlier) = Kind::ALL.get(part) else { return loose(builder) };
-    for later in Kind::ALL {
-        direct(builder, earlier, later);
-        chain(builder, earlier, later);
-        chain_by_fsync(builder, earlier, later);
-        free(builder, earlier, later, false);
-        free(builder, earlier, later, true);
+    for earlier in Kind::ALL {
+        for later in Kind::ALL {
+            direct(builder, earlier, later);
+            chain(builder, earlier, later);
+            chain_by_fsync(builder, earlier, later);
+            free(builder, earlier, later, false);
+            free(builder, earlier, later, true);
+        }
     }
+    loose(builder);
 }
 
 /// Sets the volume up and sends it, leaving an empty log whose next number is known.

@@ -1,8 +1,7 @@
-//! Long useful runs: logs that fill up, many operations waiting, pushes in random order, rows loaded and what is due
-//! sent, cuts, takes, renews and remounts.
+//! Long useful runs: logs that fill up, many operations waiting, pushes in random order, cuts, takes, renews
+//! and remounts.
 
 use crate::builder::{hex, Builder, BLOCK};
-use crate::waits;
 use second::geometry::LONGEST_RECORD;
 
 /// How a run is steered: the weights of what it does, and how many takes it may make (each is long).
@@ -21,26 +20,22 @@ const NAMES: [&[u8]; 5] = [b"a", b"b", b"c", b"task", b"\xff\x01."];
 
 /// A run with everything in it.
 pub fn run(builder: &mut Builder) {
-    let calls = builder.rounds(260) as usize;
-    let takes = builder.rounds(4) as usize;
-    let style = Style { changes: 50, questions: 18, sends: 24, losses: 6, cuts: 2, calls, takes, programs: 5 };
+    let style = Style { changes: 50, questions: 18, sends: 24, losses: 6, cuts: 2, calls: 260, takes: 4, programs: 5 };
     let (n, b, m) =
         builder.random.pick(&[(6, 1, 4), (8, 2, 6), (10, 1, 8), (12, 1, 12), (7, 3, 5), (30, 1, 10), (5, 5, 6)]);
     builder.comment(&format!("A run with n = {n}, b = {b}, m = {m}."));
     builder.begin(n, b, m);
     populate(builder);
-    waits::load(builder);
     play(builder, style);
 }
 
 /// A run that seldom sends: the log fills up, and chains of waiting operations grow long.
 pub fn fill(builder: &mut Builder) {
-    let (n, b, m) = builder.random.pick(&[(12, 1, 16), (15, 2, 20), (20, 1, 30), (28, 1, 24), (9, 3, 30)]);
+    let (n, b, m) = builder.random.pick(&[(12, 1, 16), (15, 2, 20), (20, 1, 31), (28, 1, 24), (9, 3, 31)]);
     builder.comment(&format!("A run that lets the log fill up, with n = {n}, b = {b}, m = {m}."));
     builder.begin(n, b, m);
     populate(builder);
-    waits::load(builder);
-    for _ in 0..builder.rounds(3) {
+    for _ in 0..3 {
         builder.comment("Until the log is full.");
         let style =
             || Style { changes: 84, questions: 13, sends: 3, losses: 0, cuts: 0, calls: 10, takes: 0, programs: 9 };
@@ -79,12 +74,11 @@ pub fn files(builder: &mut Builder) {
         builder.say(line);
         send_all(builder);
     }
-    waits::load(builder);
-    for round in 0..builder.rounds(130) {
+    for round in 0..130 {
         let program = program(builder, 6);
         let file = builder.random.pick(&[1, 1, 1, 2]);
         let length = builder.length_of(file);
-        let line = match builder.random.weighted(&[(60, 0), (8, 1), (4, 2), (4, 3), (30, 4), (4, 5), (5, 6), (2, 7)]) {
+        let line = match builder.random.weighted(&[(60, 0), (8, 1), (4, 2), (4, 3), (35, 4), (4, 5)]) {
             0 => overlap(builder, program, file, length),
             1 => format!("write {program} {file} {length} {}", hex(&[round as u8; 3])),
             2 => format!("setlen {program} {file} {}", builder.random.pick(&[length, 12, BLOCK])),
@@ -93,12 +87,7 @@ pub fn files(builder: &mut Builder) {
                 push(builder);
                 continue;
             }
-            5 => format!("fsync {program} {file} {}", builder.random.pick(&[99, 99, 2])),
-            6 => "due".to_string(),
-            _ => {
-                waits::load(builder);
-                continue;
-            }
+            _ => format!("fsync {program} {file} {}", builder.random.pick(&[99, 99, 2])),
         };
         builder.call(&line);
     }
@@ -332,17 +321,13 @@ pub fn push(builder: &mut Builder) {
     builder.call(&format!("push {sequence}"));
 }
 
-/// A push, what is due, or an fsync whose link seldom falls; with nothing to send, mostly a change.
+/// A push, or an fsync whose link seldom falls; with nothing to send, mostly a change.
 pub fn send(builder: &mut Builder, program: u64) {
     if builder.waiting().is_empty() && builder.random.chance(85) {
         return change(builder, program);
     }
-    if builder.random.chance(80) {
+    if builder.random.chance(86) {
         return push(builder);
-    }
-    if builder.random.chance(40) {
-        builder.call("due");
-        return;
     }
     let used = builder.used();
     let object = mostly(builder, &used);
@@ -375,7 +360,6 @@ pub fn lose(builder: &mut Builder, takes: &mut usize, programs: u64) {
         _ => {
             builder.comment("Another mount drops the log unseen.");
             builder.call("mount");
-            waits::load(builder);
         }
     }
 }

@@ -261,8 +261,7 @@ fn waiting(builder: &mut Builder) {
     (record.sequence, record.program) = (3, 1);
     builder.say("poke l 0 =04");
     builder.poke("l", LOG_HEAD, &[&[1, 0, 0, 0, 2, 0, 0, 0], record.to_bytes().as_slice()].concat());
-    let lines = ["push 3".to_string(), "push 3".to_string(), format!("fsync 2 {object} 1"), "due".to_string()];
-    let line = builder.random.pick(&lines);
+    let line = builder.random.pick(&["push 3".to_string(), "push 3".to_string(), format!("fsync 2 {object} 1")]);
     builder.say(&line);
     builder.say("digest");
 }

@@ -24,15 +24,13 @@ pub fn possible(name: &str) -> Option<&'static [u64]> {
         "take" => &[1, 2, 3, 16, 19],
         "renew" => &[1, 2, 3, 18],
         "record" => &[20],
-        "rows" => &[1, 2, 21, 22, 23],
-        "due" => &[1, 2, DOES_NOT_APPLY],
         _ => return None,
     })
 }
 
-const CALLS: [&str; 22] = [
+const CALLS: [&str; 20] = [
     "format", "mount", "lookup", "list", "stat", "read", "create", "mkdir", "rmfile", "rmdir", "rename", "write",
-    "setlen", "forder", "push", "fsync", "cut", "rows", "due", "take", "renew", "record",
+    "setlen", "forder", "push", "fsync", "cut", "take", "renew", "record",
 ];
 
 #[derive(Default)]

@@ -1,7 +1,6 @@
 //! Measures what a corpus of scripts reaches: every call accepted and refused with each number that it can give,
 //! every kind of pair in the precedence rule, writes across the end of a file, names in another spelling, every byte in
-//! a name, both removals, and longest waits. Give it script files; it prints a table, then what is missing, and ends with
-//! 1 if anything is.
+//! a name, and both removals. Give it script files; it prints a table, then what is missing, and ends with 1 if anything is.
 #![forbid(unsafe_code)]
 
 mod across;
@@ -11,7 +10,6 @@ mod pairs;
 mod removal;
 mod sends;
 mod spelling;
-mod waits;
 
 use across::Across;
 use calls::Calls;
@@ -19,11 +17,10 @@ use name_bytes::NameBytes;
 use pairs::Pairs;
 use removal::Removal;
 use second::player::{Outcome, Player};
-use second::script::{lines, parse, Argument, Line};
+use second::script::{lines, parse, Line};
 use sends::Sends;
 use spelling::Spelling;
 use std::io::Write;
-use waits::Waits;
 
 /// All that is measured over the scripts.
 #[derive(Default)]
@@ -35,7 +32,6 @@ struct Reach {
     spelling: Spelling,
     name_bytes: NameBytes,
     removal: Removal,
-    waits: Waits,
     lines: usize,
     bad_lines: usize,
 }
@@ -66,15 +62,16 @@ impl Reach {
         }
     }
 
-    fn note(&mut self, name: &'static str, arguments: &[Argument], code: &str, mut before: Player, after: &mut Player) {
+    fn note(
+        &mut self,
+        name: &'static str,
+        arguments: &[second::script::Argument],
+        code: &str,
+        mut before: Player,
+        after: &mut Player,
+    ) {
         let Some(code) = code.parse().ok().filter(|_| calls::possible(name).is_some()) else { return };
         let damaged = before.lend().look().damaged();
-        // The clock stands at the end; only the waits ask for it.
-        let (arguments, clock) = match arguments {
-            [others @ .., Argument::Clock(clock)] => (others, Some(*clock)),
-            _ => (arguments, None),
-        };
-        self.waits.note_stored(name, code, &mut before);
         self.calls.note(name, code, damaged);
         self.spelling.note(name, arguments, code, &before);
         self.name_bytes.note(name, arguments, code, &before);
@@ -87,7 +84,6 @@ impl Reach {
             if !damaged {
                 self.spelling.note_sends(name, arguments, code, &before, (&old, &new));
                 self.removal.note(name, arguments, code, &before, (&old, &new));
-                self.waits.note(name, (arguments, clock), code, &before, (&old, &new));
             }
         }
         if name == "record" {
@@ -103,7 +99,6 @@ impl Reach {
         missing.extend(self.spelling.missing());
         missing.extend(self.name_bytes.missing());
         missing.extend(self.removal.missing());
-        missing.extend(self.waits.missing());
         if self.bad_lines == 0 {
             missing.push("a bad line".to_string());
         }
@@ -121,7 +116,7 @@ fn main() -> std::io::Result<()> {
     let mut text =
         format!("{} scripts, {} lines, {} ending in a bad line\n", files.len(), reach.lines, reach.bad_lines);
     text += &(reach.calls.table() + &reach.pairs.table() + &reach.sends.table() + &reach.across.table());
-    text += &(reach.spelling.table() + &reach.name_bytes.table() + &reach.removal.table() + &reach.waits.table());
+    text += &(reach.spelling.table() + &reach.name_bytes.table() + &reach.removal.table());
     missing.iter().for_each(|what| text += &format!("missing: {what}\n"));
     if missing.is_empty() {
         text += "nothing is missing\n";

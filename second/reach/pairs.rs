@@ -48,7 +48,7 @@ impl Pairs {
                 self.note_push(record, code, old);
             }
         }
-        if ["push", "fsync", "due"].contains(&name) {
+        if ["push", "fsync"].contains(&name) {
             let used: BTreeSet<u32> = new.slots.iter().map(|slot| slot.record.sequence).collect();
             self.sent.extend(old.waiting().iter().map(|record| record.sequence).filter(|one| !used.contains(one)));
         }

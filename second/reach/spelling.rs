@@ -45,9 +45,9 @@ const WANTED: [&str; 28] = [
 /// Further ones, which are not seen in one call's arguments.
 const BESIDES: [&str; 2] = ["rename only of the case lost", "mount of names that differ by 32 in no letter"];
 /// The calls that check the form of a volume.
-const CHECKING: [&str; 20] = [
+const CHECKING: [&str; 18] = [
     "mount", "lookup", "list", "stat", "read", "create", "mkdir", "rmfile", "rmdir", "rename", "write", "setlen",
-    "forder", "push", "fsync", "cut", "rows", "due", "take", "renew",
+    "forder", "push", "fsync", "cut", "take", "renew",
 ];
 
 #[derive(Default)]

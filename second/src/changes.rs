@@ -1,5 +1,5 @@
 //! The changes and forder: each alters the view, takes one sequence number and waits (document 01, "Calls"); a write
-//! across the end of a file is two such operations (document 02, K1). Each is told the time by a clock (K5).
+//! across the end of a file is two such operations (document 02, K1).
 
 use crate::bytes::get_u16;
 use crate::geometry::BLOCK;
@@ -10,37 +10,16 @@ use crate::session::{Found, Lent};
 use crate::volume::{DIRECTORY, FILE};
 
 /// Creates an empty file under an unused object number of the caller's choice.
-pub fn create(
-    lent: &mut Lent,
-    program: u64,
-    parent: u64,
-    name: &[u8],
-    object: u64,
-    clock: u32,
-) -> Result<u64, Refusal> {
-    make(lent, Kind::Create, program, (parent, name), object, clock)
+pub fn create(lent: &mut Lent, program: u64, parent: u64, name: &[u8], object: u64) -> Result<u64, Refusal> {
+    make(lent, Kind::Create, program, parent, name, object)
 }
 
 /// Makes an empty directory under an unused object number of the caller's choice.
-pub fn make_directory(
-    lent: &mut Lent,
-    program: u64,
-    parent: u64,
-    name: &[u8],
-    object: u64,
-    clock: u32,
-) -> Result<u64, Refusal> {
-    make(lent, Kind::MakeDirectory, program, (parent, name), object, clock)
+pub fn make_directory(lent: &mut Lent, program: u64, parent: u64, name: &[u8], object: u64) -> Result<u64, Refusal> {
+    make(lent, Kind::MakeDirectory, program, parent, name, object)
 }
 
-fn make(
-    lent: &mut Lent,
-    kind: Kind,
-    program: u64,
-    (parent, name): (u64, &[u8]),
-    object: u64,
-    clock: u32,
-) -> Result<u64, Refusal> {
+fn make(lent: &mut Lent, kind: Kind, program: u64, parent: u64, name: &[u8], object: u64) -> Result<u64, Refusal> {
     let now = lent.look();
     let (place, number) = (parent as usize, object as usize);
     first(&[
@@ -59,22 +38,22 @@ fn make(
     ])?;
     let record = Record { object: object as u16, parent: parent as u16, name: name.to_vec(), ..Record::blank(kind) };
     let (geometry, log) = now.keep();
-    Ok(lent.issue(geometry, log, program, clock, record))
+    Ok(lent.issue(geometry, log, program, record))
 }
 
 /// Removes a file; it is logged with the name as typed.
-pub fn remove_file(lent: &mut Lent, program: u64, parent: u64, name: &[u8], clock: u32) -> Result<u64, Refusal> {
-    remove(lent, FILE, program, (parent, name), clock)
+pub fn remove_file(lent: &mut Lent, program: u64, parent: u64, name: &[u8]) -> Result<u64, Refusal> {
+    remove(lent, FILE, program, parent, name)
 }
 
 /// Removes an empty directory; it is logged with the name as typed.
-pub fn remove_directory(lent: &mut Lent, program: u64, parent: u64, name: &[u8], clock: u32) -> Result<u64, Refusal> {
-    remove(lent, DIRECTORY, program, (parent, name), clock)
+pub fn remove_directory(lent: &mut Lent, program: u64, parent: u64, name: &[u8]) -> Result<u64, Refusal> {
+    remove(lent, DIRECTORY, program, parent, name)
 }
 
 /// Removes an object of the kind that the call takes. An object of the other kind is refused with 9 before it is asked
 /// for children (document 02, K4).
-fn remove(lent: &mut Lent, taken: u8, program: u64, (parent, name): (u64, &[u8]), clock: u32) -> Result<u64, Refusal> {
+fn remove(lent: &mut Lent, taken: u8, program: u64, parent: u64, name: &[u8]) -> Result<u64, Refusal> {
     let now = lent.look();
     let place = parent as usize;
     let found = || now.view().seek(place, name);
@@ -96,7 +75,7 @@ fn remove(lent: &mut Lent, taken: u8, program: u64, (parent, name): (u64, &[u8])
     let object = found().unwrap_or(0) as u16;
     let record = Record { object, parent: parent as u16, name: name.to_vec(), ..Record::blank(Kind::Remove) };
     let (geometry, log) = now.keep();
-    Ok(lent.issue(geometry, log, program, clock, record))
+    Ok(lent.issue(geometry, log, program, record))
 }
 
 /// Whether a place is a directory in which the name is absent.
@@ -152,7 +131,6 @@ pub fn rename(
     program: u64,
     (parent, name): (u64, &[u8]),
     (second_parent, second_name): (u64, &[u8]),
-    clock: u32,
 ) -> Result<u64, Refusal> {
     let now = lent.look();
     let sides = Sides { now: &now, from: parent as usize, name, to: second_parent as usize, second_name };
@@ -180,12 +158,12 @@ pub fn rename(
         ..Record::blank(Kind::Rename)
     };
     let (geometry, log) = now.keep();
-    Ok(lent.issue(geometry, log, program, clock, record))
+    Ok(lent.issue(geometry, log, program, record))
 }
 
 /// Writes data within one block: inside the length it is an overwrite, at the length an append, and across the
 /// length both, in this order (document 02, K1). Gives the first number.
-pub fn write(lent: &mut Lent, program: u64, object: u64, offset: u64, data: &[u8], clock: u32) -> Result<u64, Refusal> {
+pub fn write(lent: &mut Lent, program: u64, object: u64, offset: u64, data: &[u8]) -> Result<u64, Refusal> {
     let now = lent.look();
     let at = object as usize;
     let parts = || parts_of_write(now.view().length(at), at, offset as usize, data);
@@ -203,7 +181,7 @@ pub fn write(lent: &mut Lent, program: u64, object: u64, offset: u64, data: &[u8
     ])?;
     let records = parts();
     let (geometry, log) = now.keep();
-    Ok(lent.issue_in_turn(geometry, log, program, clock, records))
+    Ok(lent.issue_in_turn(geometry, log, program, records))
 }
 
 /// Refusal 12 of a write: 0 bytes, across blocks, beyond the length or b.
@@ -233,7 +211,7 @@ fn parts_of_write(length: usize, file: usize, offset: usize, data: &[u8]) -> Vec
 }
 
 /// Gives a file a new length; what this cuts off or adds is zero.
-pub fn set_length(lent: &mut Lent, program: u64, object: u64, length: u64, clock: u32) -> Result<u64, Refusal> {
+pub fn set_length(lent: &mut Lent, program: u64, object: u64, length: u64) -> Result<u64, Refusal> {
     let now = lent.look();
     let at = object as usize;
     first(&[
@@ -250,11 +228,11 @@ pub fn set_length(lent: &mut Lent, program: u64, object: u64, length: u64, clock
     ])?;
     let record = Record { object: object as u16, offset: length as u32, ..Record::blank(Kind::SetLength) };
     let (geometry, log) = now.keep();
-    Ok(lent.issue(geometry, log, program, clock, record))
+    Ok(lent.issue(geometry, log, program, record))
 }
 
 /// Orders later operations on the listed objects after earlier ones; the list has 2 bytes an object.
-pub fn forder(lent: &mut Lent, program: u64, list: &[u8], clock: u32) -> Result<u64, Refusal> {
+pub fn forder(lent: &mut Lent, program: u64, list: &[u8]) -> Result<u64, Refusal> {
     let now = lent.look();
     let objects: Vec<u16> = list.chunks_exact(2).map(|pair| get_u16(pair, 0)).collect();
     let twice = || objects.iter().enumerate().any(|(at, object)| objects[..at].contains(object));
@@ -271,5 +249,5 @@ pub fn forder(lent: &mut Lent, program: u64, list: &[u8], clock: u32) -> Result<
     ])?;
     let record = Record { list: objects, ..Record::blank(Kind::Forder) };
     let (geometry, log) = now.keep();
-    Ok(lent.issue(geometry, log, program, clock, record))
+    Ok(lent.issue(geometry, log, program, record))
 }

@@ -1,16 +1,13 @@
-//! The geometry and the lengths that follow from it (document 01, "Geometry and stored form"; the log's as document 02,
-//! K5, has them).
-
-use crate::waits::{MOST_ROWS, ROW};
+//! The geometry and the lengths that follow from it (document 01, "Geometry and stored form").
 
 /// The bytes of one block of a file.
 pub const BLOCK: usize = 1024;
 /// The bytes of an entry before its data.
 pub const ENTRY_HEAD: usize = 68;
-/// The bytes of the log before its slots: next number, marks, latest time, row count and the rows.
-pub const LOG_HEAD: usize = 16 + MOST_ROWS * ROW;
+/// The bytes of the log before its slots.
+pub const LOG_HEAD: usize = 8;
 /// The bytes of one slot, and of the longest record in it.
-pub const SLOT: usize = 1052;
+pub const SLOT: usize = 1048;
 pub const LONGEST_RECORD: usize = 1040;
 
 /// n objects, b blocks a file and m log slots, within their limits.

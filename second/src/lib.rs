@@ -1,4 +1,4 @@
-//! An ordered write-behind volume, as document 01 and the requests K1 to K5 of document 02 describe it.
+//! An ordered write-behind volume, as document 01 and the requests K1 to K4 of document 02 describe it.
 //!
 //! The calls take a geometry, numbers and byte slices and answer with the numbers of document 01:
 //! see [`session`] (format, mount), [`questions`], [`changes`], [`sends`] and [`losses`].
@@ -12,7 +12,7 @@
 //! second::format(n, b, m, &mut server)?;
 //! let mut lent = Lent { n, b, m, server: &mut server, view: &mut view, log: &mut log };
 //! second::mount(&mut lent)?;
-//! assert_eq!(second::create(&mut lent, 0, 0, b"task", 1, 0)?, 1);
+//! assert_eq!(second::create(&mut lent, 0, 0, b"task", 1)?, 1);
 //! assert_eq!(second::lookup(&mut lent, 0, b"/task")?, 1);
 //! # Ok::<(), second::Refusal>(())
 //! ```
@@ -36,11 +36,10 @@ pub mod script;
 pub mod sends;
 pub mod session;
 pub mod volume;
-pub mod waits;
 
 pub use changes::{create, forder, make_directory, remove_directory, remove_file, rename, set_length, write};
 pub use losses::{read_record, renew, take, Head};
 pub use questions::{list, lookup, read, stat, Stat};
 pub use refusal::Refusal;
-pub use sends::{cut, fsync, load_rows, push, send_due, Sent};
+pub use sends::{cut, fsync, push, Fsync};
 pub use session::{format, mount, Lent};

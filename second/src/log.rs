@@ -1,25 +1,19 @@
-//! The log: next number, marks, latest time, rows and slots (document 01, "Geometry and stored form"; document 02, K5).
+//! The log: next number, marks and slots (document 01, "Geometry and stored form").
 //! It is read whole from its buffer, changed, and written back whole.
 
 use crate::bytes::{all_zero, get_u32, put_u32};
 use crate::geometry::{Geometry, LOG_HEAD, SLOT};
 use crate::order;
 use crate::record::Record;
-use crate::waits::{bad_seconds, due_time, leaves_out, overlap, read_rows, Wait, MOST_ROWS, ROW};
 
 /// The next number after which no change is possible (refusal 14).
 pub const SPENT: u32 = 4_294_967_295;
 
 const STATE_WAITING: u8 = 1;
 const STATE_LOST: u8 = 2;
-/// Where the latest time, the row count and the rows begin in the head.
-pub const LATEST_AT: usize = 8;
-pub const COUNT_AT: usize = 12;
-pub const ROWS_AT: usize = 16;
-/// Where the dependents, the record and the due time begin in a slot.
+/// Where the dependents and the record begin in a slot.
 pub const DEPENDENTS_AT: usize = 4;
 pub const RECORD_AT: usize = 8;
-pub const DUE_AT: usize = SLOT - 4;
 
 #[derive(Clone, Copy, PartialEq, Eq, Debug)]
 pub enum State {
@@ -33,8 +27,6 @@ pub struct Slot {
     pub state: State,
     pub dependents: u32,
     pub record: Record,
-    /// Kept when the operation is lost.
-    pub due: u32,
 }
 
 /// A log with its used slots; the free ones up to m are understood.
@@ -42,28 +34,18 @@ pub struct Slot {
 pub struct Log {
     pub next: u32,
     pub marks: u32,
-    /// The latest time that a clock has told.
-    pub latest: u32,
-    /// The rows in use; the others up to 16 are understood.
-    pub rows: Vec<Wait>,
     pub slots: Vec<Slot>,
 }
 
 impl Log {
     /// The log as mount begins it.
     pub fn empty() -> Log {
-        Log { next: 1, ..Log::default() }
+        Log { next: 1, marks: 0, slots: Vec::new() }
     }
 
     /// Reads a log from its buffer; none if its form is broken.
     pub fn read(geometry: &Geometry, bytes: &[u8]) -> Option<Log> {
-        let mut log = Log {
-            next: get_u32(bytes, 0),
-            marks: get_u32(bytes, 4),
-            latest: get_u32(bytes, LATEST_AT),
-            rows: stored_rows(&bytes[..LOG_HEAD])?,
-            slots: Vec::new(),
-        };
+        let mut log = Log { next: get_u32(bytes, 0), marks: get_u32(bytes, 4), slots: Vec::new() };
         let mut free_before = false;
         for stored in bytes[LOG_HEAD..].chunks(SLOT) {
             if all_zero(stored) {
@@ -91,17 +73,11 @@ impl Log {
         bytes.fill(0);
         put_u32(bytes, 0, self.next);
         put_u32(bytes, 4, self.marks);
-        put_u32(bytes, LATEST_AT, self.latest);
-        put_u32(bytes, COUNT_AT, self.rows.len() as u32);
-        for (row, stored) in self.rows.iter().zip(bytes[ROWS_AT..LOG_HEAD].chunks_mut(ROW)) {
-            row.write(stored);
-        }
         for (slot, stored) in self.slots.iter().zip(bytes[LOG_HEAD..].chunks_mut(SLOT)) {
             let record = slot.record.to_bytes();
             stored[0] = if slot.state == State::Waiting { STATE_WAITING } else { STATE_LOST };
             put_u32(stored, DEPENDENTS_AT, slot.dependents);
             stored[RECORD_AT..RECORD_AT + record.len()].copy_from_slice(&record);
-            put_u32(stored, DUE_AT, slot.due);
         }
     }
 
@@ -113,12 +89,6 @@ impl Log {
     /// The waiting operation of a sequence number.
     pub fn find_waiting(&self, sequence: u64) -> Option<&Record> {
         self.waiting().into_iter().find(|record| record.sequence as u64 == sequence)
-    }
-
-    /// The waiting operations that are due, in issue order: their due time is not after the latest time.
-    pub fn due(&self) -> Vec<&Record> {
-        let due = |slot: &&Slot| slot.state == State::Waiting && slot.due <= self.latest;
-        self.slots.iter().filter(due).map(|slot| &slot.record).collect()
     }
 
     /// The earliest loss of a program.
@@ -141,11 +111,6 @@ impl Log {
         self.marks >> program & 1 == 1
     }
 
-    /// Makes the clock of a call the latest time, unless a later one has been seen.
-    pub fn see(&mut self, clock: u32) {
-        self.latest = self.latest.max(clock);
-    }
-
     /// Frees the slot of a sequence number; the later slots move down.
     pub fn free(&mut self, sequence: u32) {
         self.slots.retain(|slot| slot.record.sequence != sequence);
@@ -163,12 +128,10 @@ impl Log {
         }
     }
 
-    /// Adds a waiting operation, issued at the latest time, that leaves a file of that length; its own program depends
-    /// on it.
-    pub fn add(&mut self, record: Record, length: usize) {
-        let due = due_time(&self.rows, self.latest, length as u64);
+    /// Adds a waiting operation, on which its own program depends.
+    pub fn add(&mut self, record: Record) {
         self.next += 1;
-        self.slots.push(Slot { state: State::Waiting, dependents: 1 << record.program, record, due });
+        self.slots.push(Slot { state: State::Waiting, dependents: 1 << record.program, record });
     }
 
     /// Turns all waiting operations into lost ones and marks their dependents.
@@ -181,20 +144,7 @@ impl Log {
     }
 }
 
-/// Reads the rows of a log's head: at most 16, the others zero. Each length lies in exactly one row and all seconds are
-/// in range, unless there are none.
-fn stored_rows(head: &[u8]) -> Option<Vec<Wait>> {
-    let count = get_u32(head, COUNT_AT) as usize;
-    if count > MOST_ROWS {
-        return None;
-    }
-    let (used, others) = head[ROWS_AT..].split_at(count * ROW);
-    let rows = read_rows(used);
-    let good = all_zero(others) && (count == 0 || !(leaves_out(&rows) || overlap(&rows) || bad_seconds(&rows)));
-    good.then_some(rows)
-}
-
-/// Reads a slot that is not free: state, 3 zero bytes, dependents, a record that fits, zeros, any due time.
+/// Reads a slot that is not free: state, 3 zero bytes, dependents, a record that fits, zeros.
 fn read_slot(geometry: &Geometry, stored: &[u8]) -> Option<Slot> {
     let state = match stored[0] {
         STATE_WAITING => State::Waiting,
@@ -202,10 +152,10 @@ fn read_slot(geometry: &Geometry, stored: &[u8]) -> Option<Slot> {
         _ => return None,
     };
     let dependents = get_u32(stored, DEPENDENTS_AT);
-    let (record, length) = Record::from_bytes(&stored[RECORD_AT..DUE_AT])?;
+    let (record, length) = Record::from_bytes(&stored[RECORD_AT..])?;
     let good = all_zero(&stored[1..DEPENDENTS_AT])
         && (state == State::Waiting || dependents == 0)
         && record.fits(geometry)
-        && all_zero(&stored[RECORD_AT + length..DUE_AT]);
-    good.then_some(Slot { state, dependents, record, due: get_u32(stored, DUE_AT) })
+        && all_zero(&stored[RECORD_AT + length..]);
+    good.then_some(Slot { state, dependents, record })
 }

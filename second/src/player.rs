@@ -3,7 +3,7 @@
 use crate::geometry::{BLOCK, ENTRY_HEAD, LOG_HEAD, SLOT};
 use crate::refusal::Refusal;
 use crate::script::{lines, parse, to_hexadecimal, Argument, Line};
-use crate::sends::Sent;
+use crate::sends::Fsync;
 use crate::session::Lent;
 use crate::*;
 
@@ -131,49 +131,17 @@ impl Player {
                 let answer = stat(lent, number(), number());
                 with_results(answer.map(|stat| [stat.kind, stat.length, stat.usage]))
             }
+            "setlen" => with_result(set_length(lent, number(), number(), number())),
             "push" => code(push(lent, number())),
-            "fsync" => sent_text(fsync(lent, number(), number(), number())),
+            "fsync" => fsync_text(fsync(lent, number(), number(), number())),
             "cut" => code(cut(lent)),
             "renew" => code(renew(lent, number())),
-            "rows" => code(load_rows(lent, &arguments.bytes())),
-            "due" => sent_text(send_due(lent, arguments.clock())),
-            "create" | "mkdir" | "rmfile" | "rmdir" | "rename" | "write" | "setlen" | "forder" => {
-                with_result(play_change(lent, name, arguments))
-            }
             _ => play_bytes_call(lent, name, arguments),
         }
     }
 }
 
-/// The changes and forder, which have a clock at their end.
-fn play_change(lent: &mut Lent, call: &str, arguments: &mut Arguments) -> Result<u64, Refusal> {
-    let program = arguments.number();
-    match call {
-        "create" | "mkdir" => {
-            let (parent, name, object) = (arguments.number(), arguments.bytes(), arguments.number());
-            let make = if call == "create" { create } else { make_directory };
-            make(lent, program, parent, &name, object, arguments.clock())
-        }
-        "rmfile" | "rmdir" => {
-            let (parent, name) = (arguments.number(), arguments.bytes());
-            let remove = if call == "rmfile" { remove_file } else { remove_directory };
-            remove(lent, program, parent, &name, arguments.clock())
-        }
-        "rename" => {
-            let (parent, name) = (arguments.number(), arguments.bytes());
-            let (second_parent, second_name) = (arguments.number(), arguments.bytes());
-            rename(lent, program, (parent, &name), (second_parent, &second_name), arguments.clock())
-        }
-        "write" => {
-            let (object, offset, data) = (arguments.number(), arguments.number(), arguments.bytes());
-            write(lent, program, object, offset, &data, arguments.clock())
-        }
-        "setlen" => set_length(lent, program, arguments.number(), arguments.number(), arguments.clock()),
-        _ => forder(lent, program, &arguments.bytes(), arguments.clock()),
-    }
-}
-
-/// The other calls that are given bytes.
+/// The calls that are given bytes.
 fn play_bytes_call(lent: &mut Lent, name: &str, arguments: &mut Arguments) -> String {
     let first_number = arguments.number();
     match name {
@@ -187,6 +155,20 @@ fn play_bytes_call(lent: &mut Lent, name: &str, arguments: &mut Arguments) -> St
             with_buffer(arguments, |buffer| read(lent, first_number, object, offset, buffer))
         }
         "take" => with_buffer(arguments, |buffer| take(lent, first_number, buffer)),
+        "create" | "mkdir" => {
+            let (parent, name_bytes, object) = (arguments.number(), arguments.bytes(), arguments.number());
+            let call = if name == "create" { create } else { make_directory };
+            with_result(call(lent, first_number, parent, &name_bytes, object))
+        }
+        "rmfile" => with_result(remove_file(lent, first_number, arguments.number(), &arguments.bytes())),
+        "rmdir" => with_result(remove_directory(lent, first_number, arguments.number(), &arguments.bytes())),
+        "rename" => {
+            let (parent, name) = (arguments.number(), arguments.bytes());
+            let (second_parent, second_name) = (arguments.number(), arguments.bytes());
+            with_result(rename(lent, first_number, (parent, &name), (second_parent, &second_name)))
+        }
+        "write" => with_result(write(lent, first_number, arguments.number(), arguments.number(), &arguments.bytes())),
+        "forder" => with_result(forder(lent, first_number, &arguments.bytes())),
         "record" => {
             let head = read_record(first_number, &arguments.bytes());
             with_results(head.map(|head| [head.next, head.sequence, head.program, head.kind]))
@@ -203,13 +185,6 @@ impl Arguments {
         match self.0.next() {
             Some(Argument::Number(number)) => number,
             other => unreachable!("a number stands here, not {other:?}"),
-        }
-    }
-
-    fn clock(&mut self) -> u32 {
-        match self.0.next() {
-            Some(Argument::Clock(clock)) => clock,
-            other => unreachable!("a clock stands here, not {other:?}"),
         }
     }
 
@@ -251,7 +226,7 @@ fn with_buffer(arguments: &mut Arguments, call: impl FnOnce(&mut [u8]) -> Result
     format!("{text} {}", to_hexadecimal(&buffer))
 }
 
-fn sent_text(answer: Sent) -> String {
+fn fsync_text(answer: Fsync) -> String {
     format!("{} {}", answer.refusal.map_or(0, Refusal::number), answer.sends)
 }
 

@@ -1,6 +1,6 @@
 //! The returned numbers, and the rule that the lowest wins (document 01, "Returned numbers").
 
-/// The reasons for a refusal, with their numbers; 21 to 23 are those of document 02, K5.
+/// The reasons for a refusal, with their numbers.
 #[derive(Clone, Copy, PartialEq, Eq, PartialOrd, Ord, Debug)]
 pub enum Refusal {
     WrongBuffer = 1,
@@ -23,9 +23,6 @@ pub enum Refusal {
     LossesLeft = 18,
     ShortBuffer = 19,
     BadRecord = 20,
-    LengthLeftOut = 21,
-    LengthTwice = 22,
-    BadSeconds = 23,
 }
 
 impl Refusal {

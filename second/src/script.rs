@@ -8,7 +8,6 @@ pub const LONGEST_BYTES: usize = 2048;
 #[derive(Clone, PartialEq, Eq, Debug)]
 pub enum Argument {
     Number(u64),
-    Clock(u32),
     Bytes(Vec<u8>),
     /// One of the areas: 0 is `s`, 1 is `v` and 2 is `l`.
     Area(usize),
@@ -23,8 +22,8 @@ pub enum Line {
     Bad,
 }
 
-/// Every command with its arguments: `a` an area, `n` a number, `c` a clock, `=` bytes.
-pub const COMMANDS: [(&str, &str); 29] = [
+/// Every command with its arguments: `a` an area, `n` a number, `=` bytes.
+pub const COMMANDS: [(&str, &str); 27] = [
     ("give", "nnn"),
     ("size", "nnn"),
     ("fit", ""),
@@ -38,22 +37,20 @@ pub const COMMANDS: [(&str, &str); 29] = [
     ("list", "nn="),
     ("stat", "nn"),
     ("read", "nnn="),
-    ("create", "nn=nc"),
-    ("mkdir", "nn=nc"),
-    ("rmfile", "nn=c"),
-    ("rmdir", "nn=c"),
-    ("rename", "nn=n=c"),
-    ("write", "nnn=c"),
-    ("setlen", "nnnc"),
-    ("forder", "n=c"),
+    ("create", "nn=n"),
+    ("mkdir", "nn=n"),
+    ("rmfile", "nn="),
+    ("rmdir", "nn="),
+    ("rename", "nn=n="),
+    ("write", "nnn="),
+    ("setlen", "nnn"),
+    ("forder", "n="),
     ("push", "n"),
     ("fsync", "nnn"),
     ("cut", ""),
     ("take", "n="),
     ("renew", "n"),
     ("record", "n="),
-    ("rows", "="),
-    ("due", "c"),
 ];
 
 /// The lines of a script; the last one may lack its newline.
@@ -89,7 +86,6 @@ fn argument(letter: char, word: &[u8]) -> Option<Argument> {
     match letter {
         'a' => [b"s", b"v", b"l"].iter().position(|name| *name == word).map(Argument::Area),
         'n' => number(word).map(Argument::Number),
-        'c' => number(word).and_then(|clock| u32::try_from(clock).ok()).map(Argument::Clock),
         _ => hexadecimal(word).map(Argument::Bytes),
     }
 }

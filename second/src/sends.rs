@@ -1,5 +1,4 @@
-//! Push, fsync and cut: what reaches the server and what is lost (document 01, "Calls"); and loading the rows and sending
-//! what is due (document 02, K5).
+//! Push, fsync and cut: what reaches the server and what is lost (document 01, "Calls").
 
 use crate::apply::{applies, apply};
 use crate::geometry::Geometry;
@@ -8,11 +7,10 @@ use crate::order::{has_predecessor, with_predecessors};
 use crate::record::Record;
 use crate::refusal::{first, Refusal};
 use crate::session::Lent;
-use crate::waits::{bad_seconds, leaves_out, overlap, read_rows, MOST_ROWS, ROW};
 
-/// What fsync and sending what is due give: a refusal if any, and the sends made, which refusals 17 and 2 report too.
+/// What fsync gives: a refusal if any, and the sends made, which refusals 17 and 2 report too.
 #[derive(Clone, Copy, PartialEq, Eq, Debug)]
-pub struct Sent {
+pub struct Fsync {
     pub refusal: Option<Refusal>,
     pub sends: u64,
 }
@@ -52,7 +50,7 @@ fn send(lent: &mut Lent, geometry: Geometry, records: &[&Record]) -> usize {
 
 /// Sends the d operations that the object needs, if the link still carries d; otherwise the first k of them
 /// are sent and the link is cut.
-pub fn fsync(lent: &mut Lent, program: u64, object: u64, k: u64) -> Sent {
+pub fn fsync(lent: &mut Lent, program: u64, object: u64, k: u64) -> Fsync {
     let now = lent.look();
     let begins = first(&[
         (Refusal::WrongBuffer, &|| now.wrong_buffer()),
@@ -63,14 +61,14 @@ pub fn fsync(lent: &mut Lent, program: u64, object: u64, k: u64) -> Sent {
         (Refusal::NoObject, &|| now.view().is_free(object as usize)),
     ]);
     if let Err(refusal) = begins {
-        return Sent { refusal: Some(refusal), sends: 0 };
+        return Fsync { refusal: Some(refusal), sends: 0 };
     }
     let (geometry, log) = now.keep();
     send_needed(lent, geometry, &log, program as u8, object as u16, k)
 }
 
 /// The part of fsync that sends. Dependence is noted on the log as it was before the sends.
-fn send_needed(lent: &mut Lent, geometry: Geometry, before: &Log, program: u8, object: u16, k: u64) -> Sent {
+fn send_needed(lent: &mut Lent, geometry: Geometry, before: &Log, program: u8, object: u16, k: u64) -> Fsync {
     let needed = with_predecessors(&before.waiting(), |record| record.has_operand(object));
     let d = needed.len();
     let carried = d.min(usize::try_from(k).unwrap_or(usize::MAX));
@@ -91,44 +89,7 @@ fn send_needed(lent: &mut Lent, geometry: Geometry, before: &Log, program: u8, o
         lent.view.copy_from_slice(lent.server);
     }
     log.write(lent.log);
-    Sent { refusal, sends: sent as u64 }
-}
-
-/// Loads the rows of longest waits, lent as 12 bytes each; due times that stand in the log stay.
-pub fn load_rows(lent: &mut Lent, rows: &[u8]) -> Result<(), Refusal> {
-    let now = lent.look();
-    let bad_length = !rows.len().is_multiple_of(ROW) || rows.len() > MOST_ROWS * ROW;
-    let rows = read_rows(rows);
-    first(&[
-        (Refusal::WrongBuffer, &|| now.wrong_buffer() || bad_length),
-        (Refusal::Damaged, &|| now.damaged()),
-        (Refusal::LengthLeftOut, &|| leaves_out(&rows)),
-        (Refusal::LengthTwice, &|| overlap(&rows)),
-        (Refusal::BadSeconds, &|| bad_seconds(&rows)),
-    ])?;
-    let (_, mut log) = now.keep();
-    log.rows = rows;
-    log.write(lent.log);
-    Ok(())
-}
-
-/// Sends every waiting operation whose due time is not after the time now, with its predecessors, in issue order. The
-/// clock is kept also where one of them does not apply, and so are the sends before that one.
-pub fn send_due(lent: &mut Lent, clock: u32) -> Sent {
-    let now = lent.look();
-    let begins = first(&[(Refusal::WrongBuffer, &|| now.wrong_buffer()), (Refusal::Damaged, &|| now.damaged())]);
-    if let Err(refusal) = begins {
-        return Sent { refusal: Some(refusal), sends: 0 };
-    }
-    let (geometry, mut log) = now.keep();
-    log.see(clock);
-    let before = log.clone();
-    let due = before.due();
-    let needed = with_predecessors(&before.waiting(), |record| due.contains(&record));
-    let sent = send(lent, geometry, &needed);
-    needed[..sent].iter().for_each(|record| log.free(record.sequence));
-    log.write(lent.log);
-    Sent { refusal: (sent < needed.len()).then_some(Refusal::Damaged), sends: sent as u64 }
+    Fsync { refusal, sends: sent as u64 }
 }
 
 /// Turns all waiting operations into lost ones, marks the dependents, and copies the server to the view.

@@ -4,7 +4,7 @@ use crate::apply::apply;
 use crate::form::well_formed;
 use crate::geometry::Geometry;
 use crate::log::Log;
-use crate::record::{Kind, Record, PROGRAMS};
+use crate::record::{Record, PROGRAMS};
 use crate::refusal::{first, Refusal};
 use crate::volume::Volume;
 
@@ -61,45 +61,24 @@ impl Lent<'_> {
         log.write(self.log);
     }
 
-    /// Lets the operation of an accepted change or forder take its number, alter the view, wait in the log with its due
-    /// time, and bring dependence. The clock tells the latest time. Gives the number.
-    pub fn issue(&mut self, geometry: Geometry, log: Log, program: u64, clock: u32, record: Record) -> u64 {
-        self.issue_in_turn(geometry, log, program, clock, vec![record])
+    /// Lets the operation of an accepted change or forder take its number, alter the view, wait in the log, and
+    /// bring dependence. Gives the number.
+    pub fn issue(&mut self, geometry: Geometry, log: Log, program: u64, record: Record) -> u64 {
+        self.issue_in_turn(geometry, log, program, vec![record])
     }
 
     /// The same for a call that is several operations, one after another. Gives the first number.
-    pub fn issue_in_turn(
-        &mut self,
-        geometry: Geometry,
-        mut log: Log,
-        program: u64,
-        clock: u32,
-        records: Vec<Record>,
-    ) -> u64 {
+    pub fn issue_in_turn(&mut self, geometry: Geometry, mut log: Log, program: u64, records: Vec<Record>) -> u64 {
         let first_number = log.next as u64;
-        log.see(clock);
         for mut record in records {
             record.sequence = log.next;
             record.program = program as u8;
-            let mut view = Volume::over(geometry, &mut *self.view);
-            apply(&mut view, &record);
-            let length = length_left(&view, &record);
+            apply(&mut Volume::over(geometry, &mut *self.view), &record);
             log.note(record.program, &record.operands().collect::<Vec<u16>>());
-            log.add(record, length);
+            log.add(record);
         }
         log.write(self.log);
         first_number
-    }
-}
-
-/// The length of the file that an operation's object is after it; 0 where it is no file, or where there is no object
-/// (document 02, K5).
-fn length_left(view: &Volume<&mut [u8]>, record: &Record) -> usize {
-    let object = record.object as usize;
-    if record.kind != Kind::Forder && view.is_file(object) {
-        view.length(object)
-    } else {
-        0
     }
 }
 

@@ -147,7 +147,7 @@ fn refusal_13_with_fewer_than_two_free_slots() {
 fn lost_slots_count_and_one_slot_is_never_enough() {
     let mut world = with_file(1, 4, 15);
     let slots = [20, 21, 22].map(|number| lost(forder_record(number, 7, &[0]))).to_vec();
-    world.set_log(&Log { next: 30, slots, ..Log::default() });
+    world.set_log(&Log { next: 30, marks: 0, slots });
     refused(&mut world, 14, b"ab", 13);
     world.take(7, &mut [0; LONGEST_RECORD]).unwrap();
     assert_eq!(world.write(2, 1, 14, b"ab"), Ok(30));

@@ -1,7 +1,6 @@
 //! Demand 3 by brute force on random runs over small logs (document 01, "The register"): after every call the
 //! server is the replay of the sent, the sent set is closed under predecessors, the whole log equals one
-//! reckoned from the history, and every closed set of waiting operations could be sent, and no other. The rows and
-//! times of document 02, K5, are reckoned from the calls in the same way.
+//! reckoned from the history, and every closed set of waiting operations could be sent, and no other.
 
 mod common;
 mod model;
@@ -18,8 +17,6 @@ struct Run {
     accepted: BTreeSet<&'static str>,
     /// The refusals of removals: whether of a directory, and the number.
     refused: BTreeSet<(bool, u64)>,
-    /// The refusals of rows.
-    refused_rows: BTreeSet<u64>,
     subsets: (usize, usize),
 }
 
@@ -34,8 +31,7 @@ impl Run {
         let (n, b, m) = (4 + random.below(5), 1 + random.below(2), 3 + random.below(6));
         let world = World::new(n, b, m);
         let register = Register::new(Tree::only_root());
-        let (accepted, refused, refused_rows) = (BTreeSet::new(), BTreeSet::new(), BTreeSet::new());
-        Run { world, register, random, accepted, refused, refused_rows, subsets: (0, 0) }
+        Run { world, register, random, accepted: BTreeSet::new(), refused: BTreeSet::new(), subsets: (0, 0) }
     }
 
     fn program(&mut self) -> u64 {
@@ -89,26 +85,11 @@ impl Run {
         self.register.operations.len() as u64 + 1
     }
 
-    /// The clock goes on by a little, at times by much, and now and then runs back.
-    fn tick(&mut self) {
-        let latest = self.register.latest;
-        let (back, on) = (self.random.below(200) as u32, self.random.below(4) as u32);
-        self.world.clock = match self.random.below(100) {
-            0..=69 => latest.saturating_add(on),
-            70..=79 => latest.saturating_add(20 * on),
-            80..=97 => latest.saturating_sub(back),
-            98 => latest.saturating_add(1000 * on),
-            _ if self.random.chance(5) => u32::MAX - back,
-            _ => latest,
-        };
-    }
-
     /// Makes one random call and carries it over to the register.
     fn step(&mut self) {
-        self.tick();
         let before = self.world.clone();
         let calls = self.register.history.len();
-        let accepted = match self.random.below(107) {
+        let accepted = match self.random.below(100) {
             0..=13 => self.make(),
             14..=20 => self.remove(),
             21..=31 => self.rename(),
@@ -120,8 +101,7 @@ impl Run {
             85..=88 => self.fsync(),
             89..=91 => self.cut(),
             92..=99 => self.lose(),
-            100..=101 => self.load_rows(),
-            _ => self.send_due(),
+            _ => unreachable!(),
         };
         if !accepted {
             assert!(self.world == before, "a refusal changes nothing");
@@ -154,7 +134,7 @@ impl Run {
         let mut view = self.register.view();
         let parts = parts(&view);
         assert!(parts.iter().all(|what| view.apply(what)), "an accepted change applies to the view");
-        self.register.add(program as u8, self.world.clock, parts);
+        self.register.add(program as u8, parts);
         self.accepted.insert(name);
         true
     }
@@ -440,63 +420,6 @@ impl Run {
         true
     }
 
-    /// Rows that divide the lengths near those that the run's files have, now and then with a fault.
-    fn load_rows(&mut self) -> bool {
-        let mut bounds: Vec<u32> = (0..self.random.below(5)).map(|_| 1 + self.random.below(14) as u32).collect();
-        bounds.sort();
-        bounds.dedup();
-        bounds.push(65_537);
-        let mut rows = Vec::new();
-        let mut shortest = 0;
-        for bound in bounds {
-            rows.push([shortest, bound - 1, *self.random.pick(&[1, 2, 5, 9, 60, 3600])]);
-            shortest = bound;
-        }
-        if self.random.chance(40) {
-            let (row, field) = (self.random.below(rows.len() as u64) as usize, self.random.below(3) as usize);
-            let value = rows[row][field];
-            rows[row][field] =
-                *self.random.pick(&[value.wrapping_add(1), value.wrapping_sub(1), 0, 3601, u32::MAX, 65_535]);
-        }
-        if self.random.chance(10) {
-            rows.remove(0);
-        }
-        if self.random.chance(20) {
-            rows.push([9, 3, *self.random.pick(&[0, 7])]);
-        }
-        if self.random.chance(50) {
-            rows.reverse();
-        }
-        let expected = judge_rows(&rows);
-        let answer = self.world.rows(&rows);
-        assert_eq!(answer, expected, "{rows:?}");
-        if answer.is_err() {
-            self.refused_rows.extend(answer.err());
-            return false;
-        }
-        self.register.rows = rows;
-        self.register.history.push(Event::Other);
-        self.accepted.insert("rows");
-        true
-    }
-
-    /// What is due is reckoned over the whole history; nothing else is sent, and nobody depends on it.
-    fn send_due(&mut self) -> bool {
-        let before = self.register.waiting().len();
-        self.register.see(self.world.clock);
-        let due = self.register.due();
-        assert_eq!(self.world.due(), (0, due.len() as u64));
-        due.iter().for_each(|number| self.register.send(*number));
-        self.register.history.push(Event::Other);
-        self.accepted.insert(match due.len() {
-            0 => "due, none",
-            sent if sent == before => "due, all",
-            1 => "due, one",
-            _ => "due, some",
-        });
-        true
-    }
-
     fn cut(&mut self) -> bool {
         assert_eq!(self.world.cut(), Ok(0));
         self.register.cut();
@@ -587,32 +510,10 @@ impl Run {
     }
 }
 
-/// What loading rows must give: every length from 0 to 65,536 is counted.
-fn judge_rows(rows: &[[u32; 3]]) -> common::Answer {
-    let mut counts = vec![0; 65_537];
-    for [shortest, longest, _] in rows {
-        (*shortest as usize..=(*longest as usize).min(65_536)).for_each(|length| counts[length] += 1);
-    }
-    if counts.contains(&0) {
-        return Err(21);
-    }
-    if counts.iter().any(|&count| count > 1) {
-        return Err(22);
-    }
-    if rows.iter().any(|row| row[2] == 0 || row[2] > 3600) {
-        return Err(23);
-    }
-    Ok(0)
-}
-
 /// What must be accepted in some run, in the order of the alphabet.
-const CALLS: [&str; 26] = [
+const CALLS: [&str; 21] = [
     "create",
     "cut",
-    "due, all",
-    "due, none",
-    "due, one",
-    "due, some",
     "forder",
     "fsync",
     "fsync with 17",
@@ -627,7 +528,6 @@ const CALLS: [&str; 26] = [
     "renew",
     "rmdir",
     "rmfile",
-    "rows",
     "setlen",
     "stat",
     "take",
@@ -637,7 +537,7 @@ const CALLS: [&str; 26] = [
 
 #[test]
 fn random_runs_keep_demand_3() {
-    let (mut accepted, mut refused, mut refused_rows) = (BTreeSet::new(), BTreeSet::new(), BTreeSet::new());
+    let (mut accepted, mut refused) = (BTreeSet::new(), BTreeSet::new());
     let mut subsets = (0, 0);
     for seed in 0..400 {
         let mut run = Run::new(seed);
@@ -650,7 +550,6 @@ fn random_runs_keep_demand_3() {
         }
         accepted.extend(run.accepted);
         refused.extend(run.refused);
-        refused_rows.extend(run.refused_rows);
         subsets = (subsets.0 + run.subsets.0, subsets.1 + run.subsets.1);
     }
     assert_eq!(accepted.into_iter().collect::<Vec<_>>(), CALLS, "every call was accepted in some run");
@@ -658,6 +557,5 @@ fn random_runs_keep_demand_3() {
     let of_directories = [4, 8, 9, 11, 13].map(|number| (true, number));
     let mut wanted = of_files.into_iter().chain(of_directories);
     assert!(wanted.all(|one| refused.contains(&one)), "removals were refused in every way: {refused:?}");
-    assert_eq!(refused_rows.into_iter().collect::<Vec<_>>(), [21, 22, 23], "rows were refused in every way");
     assert!(subsets.0 > 1000 && subsets.1 > 1000, "many sets of both sorts were tried: {subsets:?}");
 }

@@ -20,7 +20,7 @@ fn base() -> World {
 
 fn with_slots(slots: Vec<Slot>) -> World {
     let mut world = base();
-    world.set_log(&Log { next: 100, slots, ..Log::default() });
+    world.set_log(&Log { next: 100, marks: 0, slots });
     world
 }
 
@@ -204,7 +204,7 @@ fn check_applying(cases: &[(bool, Record)]) {
         world.mkdir(0, 0, b"e", 5).unwrap();
         world.push_all();
         let record = Record { sequence: 50, ..record.clone() };
-        world.set_log(&Log { next: 100, slots: vec![waiting(record.clone())], ..Log::default() });
+        world.set_log(&Log { next: 100, marks: 0, slots: vec![waiting(record.clone())] });
         let before = world.clone();
         assert_eq!(world.push(50), if *good { Ok(0) } else { Err(2) }, "{record:?}");
         assert_eq!(world == before, !good);
@@ -288,7 +288,7 @@ fn set_length_zeroes_what_it_cuts_off() {
 #[test]
 fn the_last_sequence_number_is_usable() {
     let mut world = base();
-    world.set_log(&Log { next: 4_294_967_294, slots: vec![], ..Log::default() });
+    world.set_log(&Log { next: 4_294_967_294, marks: 0, slots: vec![] });
     assert_eq!(world.forder(0, &[0]), Ok(4_294_967_294));
     assert_eq!(world.forder(0, &[0]), Err(14));
     assert_eq!(world.push(4_294_967_294), Ok(0));
@@ -307,7 +307,7 @@ fn the_largest_geometry() {
     assert_eq!(world.create(0, 0, b"g", 256), Err(7));
     let forder = |number| waiting(forder_record(number, 9, &[0, (number % 255) as u16 + 1]));
     let slots: Vec<Slot> = (1..1024).map(forder).collect();
-    world.set_log(&Log { next: 1024, slots, ..Log::default() });
+    world.set_log(&Log { next: 1024, marks: 0, slots });
     assert_eq!(world.forder(0, &[254]), Ok(1024));
     assert_eq!(world.forder(0, &[254]), Err(13));
     assert_eq!(world.push(1023), Err(15));

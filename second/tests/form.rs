@@ -4,7 +4,7 @@ mod common;
 use common::{entry_length, forder_record, log_length, lost, set_length_record, waiting, World};
 use second::bytes::put_u32;
 use second::geometry::{Geometry, BLOCK, ENTRY_HEAD, LOG_HEAD, LONGEST_RECORD, SLOT};
-use second::log::{Log, Slot, COUNT_AT, DEPENDENTS_AT, DUE_AT, LATEST_AT, RECORD_AT, ROWS_AT};
+use second::log::{Log, Slot, DEPENDENTS_AT, RECORD_AT};
 use second::names::LONGEST_NAME;
 use second::record::{Kind, Record};
 use second::volume::{LENGTH_AT, NAME_AT, NAME_LENGTH_AT, PARENT_AT};
@@ -29,14 +29,13 @@ fn base() -> World {
     world
 }
 
-/// The numbers of document 01 and of K5, which the other tests call by their names.
+/// The numbers of document 01, which the other tests call by their names.
 #[test]
 fn the_layout_in_numbers() {
     assert_eq!([NAME_LENGTH_AT, PARENT_AT, NAME_AT, LENGTH_AT, ENTRY_HEAD], [1, 2, 4, 64, 68]);
-    assert_eq!([LATEST_AT, COUNT_AT, ROWS_AT, LOG_HEAD], [8, 12, 16, 208]);
-    assert_eq!([DEPENDENTS_AT, RECORD_AT, DUE_AT, SLOT], [4, 8, 1048, 1052]);
+    assert_eq!([LOG_HEAD, DEPENDENTS_AT, RECORD_AT, SLOT], [8, 4, 8, 1048]);
     assert_eq!([LONGEST_NAME, BLOCK, LONGEST_RECORD], [60, 1024, 1040]);
-    for (n, b, m, volume, log) in [(2, 1, 1, 2184, 1260), (4, 1, 4, 4368, 4416), (256, 64, 1024, 16_794_624, 1_077_456)]
+    for (n, b, m, volume, log) in [(2, 1, 1, 2184, 1056), (4, 1, 4, 4368, 4200), (256, 64, 1024, 16_794_624, 1_073_160)]
     {
         let geometry = Geometry::new(n, b, m).unwrap();
         assert_eq!((geometry.volume_length(), geometry.log_length()), (volume, log));
@@ -137,7 +136,7 @@ fn log_is_good(log: &[u8]) -> bool {
 
 fn bytes_of(next: u32, slots: Vec<Slot>) -> Vec<u8> {
     let mut world = base();
-    world.set_log(&Log { next, slots, ..Log::default() });
+    world.set_log(&Log { next, marks: 0, slots });
     world.log
 }
 
@@ -165,8 +164,7 @@ fn every_rule_of_a_log() {
         ("last zero byte", |l| l[SECOND + DEPENDENTS_AT - 1] = 1),
         ("dependents of a lost one", |l| l[FIRST_RECORD - 1] = 1),
         ("byte past the record", |l| l[FIRST_RECORD + 13] = 1),
-        ("last byte before the due time", |l| l[SECOND + DUE_AT - 1] = 1),
-        ("last byte before a lost one's due time", |l| l[FIRST + DUE_AT - 1] = 1),
+        ("last byte of a slot", |l| l[THIRD - 1] = 1),
         ("a used slot after a free one", |l| {
             let second = l[SECOND..THIRD].to_vec();
             l[THIRD..].copy_from_slice(&second);
@@ -174,7 +172,6 @@ fn every_rule_of_a_log() {
         }),
         ("first byte of a free slot", |l| l[THIRD] = 1),
         ("last byte of a free slot", |l| *l.last_mut().unwrap() = 1),
-        ("due time of a free slot", |l| l[THIRD + DUE_AT] = 1),
         ("falling sequence", |l| l[FIRST_RECORD + 2] = 6),
         ("same sequence twice", |l| l[FIRST_RECORD + 2] = 5),
         ("waiting before lost", |l| (l[FIRST], l[SECOND]) = (1, 2)),
@@ -198,11 +195,7 @@ fn every_rule_of_a_log() {
 #[test]
 fn a_log_at_its_limits_is_good() {
     let good: Vec<(&str, Change)> = vec![
-        ("any marks", |l| l[4..LATEST_AT].fill(255)),
-        ("any latest time", |l| l[LATEST_AT..COUNT_AT].fill(255)),
-        ("due time 0", |l| l[SECOND + DUE_AT..THIRD].fill(0)),
-        ("any due time", |l| l[SECOND + DUE_AT..THIRD].copy_from_slice(&[1, 2, 3, 4])),
-        ("any due time of a lost one", |l| l[FIRST + DUE_AT..SECOND].copy_from_slice(&[4, 0, 0, 128])),
+        ("any marks", |l| l[4..LOG_HEAD].fill(255)),
         ("no dependents", |l| l[SECOND + DEPENDENTS_AT..SECOND_RECORD].fill(0)),
         ("any dependents", |l| l[SECOND + DEPENDENTS_AT..SECOND_RECORD].fill(255)),
         ("next number at its end", |l| l[..4].fill(255)),

@@ -62,7 +62,7 @@ fn stored_names_and_records_by_the_examples() {
             let (name, second_name) = (names[one].clone(), names[other].clone());
             let record = Record { sequence: 1, object: 1, name, second_name, ..Record::blank(Kind::Rename) };
             let mut world = before.clone();
-            world.set_log(&Log { next: 2, slots: vec![waiting(record.clone())], ..Log::default() });
+            world.set_log(&Log { next: 2, marks: 0, slots: vec![waiting(record.clone())] });
             assert_eq!(world.cut(), answer, "{names:?} in the log");
             let kind = second::read_record(0, &record.to_bytes()).map(|head| head.kind);
             assert_eq!(kind.ok(), good.then_some(4), "{names:?} in a record");
@@ -182,10 +182,8 @@ mod sends;
 mod session;
 #[path = "../src/volume.rs"]
 mod volume;
-#[path = "../src/waits.rs"]
-mod waits;
 pub use changes::{create, forder, make_directory, remove_directory, remove_file, rename, set_length, write};
 pub use losses::{read_record, renew, take};
 pub use questions::{list, lookup, read, stat};
-pub use sends::{cut, fsync, load_rows, push, send_due};
+pub use sends::{cut, fsync, push};
 pub use session::{format, mount};

@@ -5,9 +5,9 @@
 //! Two faults with no part in common hold at once when both are made.
 
 mod common;
-use common::{entry_length, forder_record, log_length, lost, row_bytes, set_length_record, waiting, World};
-use second::geometry::{LOG_HEAD, LONGEST_RECORD};
-use second::log::{Log, COUNT_AT};
+use common::{entry_length, forder_record, log_length, lost, set_length_record, waiting, World};
+use second::geometry::LONGEST_RECORD;
+use second::log::Log;
 
 /// A call with all arguments that any call takes; each uses its own.
 #[derive(Clone)]
@@ -22,7 +22,7 @@ struct Setup {
     object: u64,
     /// Offset, new length, sequence or sends.
     number: u64,
-    /// Path, data, list, rows or buffer.
+    /// Path, data, list or buffer.
     bytes: Vec<u8>,
 }
 
@@ -55,11 +55,6 @@ impl Setup {
                 (code, vec![sends])
             }
             "cut" => one(world.cut()),
-            "rows" => one(world.rows_bytes(bytes)),
-            "due" => {
-                let (code, sends) = world.due();
-                (code, vec![sends])
-            }
             "take" => one(world.take(*program, bytes)),
             "renew" => one(world.renew(*program)),
             other => panic!("no call {other}"),
@@ -83,8 +78,7 @@ const VOLUME: usize = 8 * ENTRY;
 const LOG: usize = log_length(4);
 
 /// n = 8, b = 2, m = 4. Sent: 1 file f of 10 bytes, 2 empty directory d, 3 directory e with 4 file x, 6 empty
-/// directory g. 5 and 7 are free. Lost: a forder of program 0. Waiting: a set length of 1, then one of it again. The
-/// clock is later than the latest time, so that a refused call that sees it changes the log.
+/// directory g. 5 and 7 are free. Lost: a forder of program 0. Waiting: a set length of 1, then one of it again.
 fn base(call: &'static str) -> Setup {
     let mut world = World::new(8, 2, 8);
     world.create(0, 0, b"f", 1).unwrap();
@@ -101,8 +95,7 @@ fn base(call: &'static str) -> Setup {
         waiting(set_length_record(21, 1, 1, 10)),
         waiting(set_length_record(22, 1, 1, 10)),
     ];
-    world.set_log(&Log { next: 23, slots, ..Log::default() });
-    world.clock = 77;
+    world.set_log(&Log { next: 23, marks: 0, slots });
     Setup {
         world,
         call,
@@ -136,8 +129,6 @@ fn buffer_faults() -> Vec<Fault> {
         fault(2, &["server"], |s| s.world.server[7 * ENTRY] = 3),
         fault(2, &["view"], |s| s.world.view[7 * ENTRY] = 3),
         fault(2, &["slot 4"], |s| *s.world.log.last_mut().unwrap() = 1),
-        fault(2, &["row count"], |s| s.world.log[COUNT_AT] = 17),
-        fault(2, &["row 16"], |s| s.world.log[LOG_HEAD - 1] = 1),
     ]
 }
 
@@ -515,7 +506,7 @@ fn push() {
 fn push_of_what_does_not_apply_comes_last() {
     let mut world = base("push").world;
     let slots = vec![waiting(set_length_record(21, 1, 5, 10)), waiting(set_length_record(22, 1, 5, 10))];
-    world.set_log(&Log { next: 23, slots, ..Log::default() });
+    world.set_log(&Log { next: 23, marks: 0, slots });
     let before = world.clone();
     assert_eq!(world.push(22), Err(15));
     assert_eq!(world.push(20), Err(16));
@@ -536,51 +527,6 @@ fn fsync() {
 #[test]
 fn cut() {
     check(base("cut"), buffer_faults());
-}
-
-/// Faults of refusals 21 to 23 in lent rows, each without one of a lower number.
-const BAD_ROWS: [(u64, &[[u32; 3]]); 12] = [
-    (21, &[]),
-    (21, &[[1, 65_536, 5]]),
-    (21, &[[0, 65_535, 5]]),
-    (21, &[[0, 4, 5], [6, 65_536, 5]]),
-    (21, &[[0, 65_535, 0], [9, 9, 3601]]),
-    (22, &[[0, 65_536, 5], [0, 0, 5]]),
-    (22, &[[0, 65_536, 5], [65_536, 65_536, 5]]),
-    (22, &[[0, 5, 5], [5, 65_536, 3601]]),
-    (23, &[[0, 65_536, 0]]),
-    (23, &[[0, 65_536, 3601]]),
-    (23, &[[0, 65_536, 5], [1, 0, 0]]),
-    (23, &[[0, 65_536, 5], [65_537, u32::MAX, u32::MAX]]),
-];
-
-#[test]
-fn rows() {
-    let mut setup = base("rows");
-    setup.bytes = row_bytes(&[[0, 65_536, 5]]);
-    let mut faults = buffer_faults();
-    faults.push(fault(1, &["rows"], |s| s.bytes = vec![0; 1]));
-    faults.push(fault(1, &["rows"], |s| s.bytes.truncate(11)));
-    faults.push(fault(1, &["rows"], |s| s.bytes.push(0)));
-    faults.push(fault(1, &["rows"], |s| s.bytes = vec![0; 191]));
-    faults.push(fault(1, &["rows"], |s| s.bytes = vec![0; 193]));
-    faults.push(fault(1, &["rows"], |s| s.bytes = [s.bytes.clone(), row_bytes(&[[1, 0, 1]; 16])].concat()));
-    macro_rules! bad_rows {
-        ($($at:literal)*) => {
-            [$(fault(BAD_ROWS[$at].0, &["rows"], |s| s.bytes = row_bytes(BAD_ROWS[$at].1))),*]
-        };
-    }
-    faults.extend(bad_rows!(0 1 2 3 4 5 6 7 8 9 10 11));
-    check(setup, faults);
-}
-
-#[test]
-fn due() {
-    check(base("due"), buffer_faults());
-    let mut world = base("due").world;
-    world.log[4] = 255;
-    assert_eq!(world.due(), (0, 0), "it has no program");
-    assert_eq!(world.log_now().latest, 77);
 }
 
 #[test]

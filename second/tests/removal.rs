@@ -139,7 +139,7 @@ fn a_stored_loss_is_taken_as_it_stands() {
     for object in 1..4 {
         let record = Record { sequence: 9, program: 2, object, name: b"any".to_vec(), ..Record::blank(Kind::Remove) };
         let mut world = volume();
-        world.set_log(&Log { next: 10, marks: 4, slots: vec![lost(record.clone())], ..Log::default() });
+        world.set_log(&Log { next: 10, marks: 4, slots: vec![lost(record.clone())] });
         assert_eq!(world.renew(2), Err(18));
         let mut buffer = [0; LONGEST_RECORD];
         assert_eq!(world.take(2, &mut buffer), Ok(16));
@@ -228,7 +228,7 @@ fn removals_are_sent_in_their_order() {
 fn a_wrong_removal_among_losses() {
     let mut world = volume();
     let slots = (1..=6).map(|sequence| forder_record(sequence, 9, &[0])).map(lost).collect();
-    world.set_log(&Log { next: 7, slots, ..Log::default() });
+    world.set_log(&Log { next: 7, marks: 0, slots });
     assert_eq!(world.rmfile(1, 0, b"Docs"), Err(9));
     assert_eq!(world.rmdir(1, 0, b"Task"), Err(9));
     assert_eq!(world.rmdir(1, 0, b"Docs"), Err(13));

@@ -243,7 +243,7 @@ fn every_call_refuses_two_such_names_with_2() {
     poke_name(&mut server.server, at, b"DOCS");
     let mut view = good.clone();
     poke_name(&mut view.view, at, b"DOCS");
-    let calls: [(&str, fn(&mut World) -> u64); 20] = [
+    let calls: [(&str, fn(&mut World) -> u64); 18] = [
         ("lookup", |world| world.lookup(0, b"/").unwrap_err()),
         ("list", |world| world.list(0, 0, &mut [0; 99]).unwrap_err()),
         ("stat", |world| world.stat(0, 0).unwrap_err()),
@@ -259,8 +259,6 @@ fn every_call_refuses_two_such_names_with_2() {
         ("push", |world| world.push(1).unwrap_err()),
         ("fsync", |world| world.fsync(0, 0, 9).0),
         ("cut", |world| world.cut().unwrap_err()),
-        ("rows", |world| world.rows(&[[0, 65_536, 9]]).unwrap_err()),
-        ("due", |world| world.due().0),
         ("take", |world| world.take(0, &mut [0; LONGEST_RECORD]).unwrap_err()),
         ("renew", |world| world.renew(0).unwrap_err()),
         ("stat of a bad program", |world| world.stat(32, 99).unwrap_err()),
@@ -488,7 +486,7 @@ fn applying_to_a_server_with_another_spelling() {
     ];
     for (applies, record) in cases {
         let mut world = with_names();
-        world.set_log(&Log { next: 10, slots: vec![waiting(record.clone())], ..Log::default() });
+        world.set_log(&Log { next: 10, marks: 0, slots: vec![waiting(record.clone())] });
         let before = world.clone();
         assert_eq!(world.clone().fsync(0, record.parent as u64, 1), if applies { (0, 1) } else { (2, 0) });
         assert_eq!(world.push(9), if applies { Ok(0) } else { Err(2) }, "{record:?}");

@@ -2,14 +2,12 @@
 ghost use Rattle.std.specs.Prelude.{◌≡◌};
 ghost use Rattle.log_rules.specs.Stored.{lent_log, formed_log};
 
-pub mod head;
 pub mod slot;
 pub mod used;
 
-use crate::head::head_formed;
 use crate::used::slots_formed;
-use log_slots::head::next_number;
-use log_slots::{HEAD, SLOT};
+use buffer::number::four_at;
+use log_slots::{HEAD, NEXT_AT, SLOT};
 
 // Whether n, b, m and the length are as document 01 has them: "n objects (2..256), b blocks a file (1..64) and m log slots
 // (1..1,024)".
@@ -42,8 +40,9 @@ pub fn log_formed(s: &[u8], n: usize, b: usize, m: usize) -> bool
     ensures { result ≡ formed_log n b m s.now }
 {
     if is_lent(s, n, b, m) {
-        if head_formed(s, m) {
-            return slots_formed(&s[HEAD..], n, b, m, next_number(s, m));
+        let next = four_at(s, NEXT_AT);
+        if 1 <= next {
+            return slots_formed(&s[HEAD..], n, b, m, next);
         }
     }
     false

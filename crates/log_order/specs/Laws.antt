@@ -1,4 +1,3 @@
 pub mod Precede
 pub mod Close
 pub mod Turn
-pub mod Due

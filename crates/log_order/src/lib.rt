@@ -1,16 +1,13 @@
-// The precedence test, the operations that fsync needs (document 01, "Order and dependence") and those that are due (document 02, K5).
-// They go through the candidates of a slot, which are the slots before a position, by recursion: "the candidate's sequence number falls
-// at each call". A call tries a run of up to 64 candidates, so at most m / 64 + 1 calls, rounded up, stand inside each other: 17 at
-// m = 1,024.
+// The precedence test and the operations that fsync needs (document 01, "Order and dependence"). Both go through the candidates
+// of a slot, which are the slots before a position, by recursion: "the candidate's sequence number falls at each call". A call
+// tries a run of up to 64 candidates, so at most m / 64 + 1 calls, rounded up, stand inside each other: 17 at m = 1,024.
 ghost use Rattle.std.specs.Prelude.{◌≡◌, ℕ, ◌+◌, ◌-◌, ◌≤◌, ◌<◌, Bool, List, length, take, drop};
 ghost use Rattle.std.proofs.Math.Seq.{slice};
 ghost use Rattle.record.specs.Operation.{Operation, Record};
 ghost use Rattle.log_rules.specs.Slot.{sequence_of};
 ghost use Rattle.log_rules.specs.Order.{preceded, needed};
-ghost use Rattle.log_rules.specs.Change.{waiting_of, due_of};
-ghost use Rattle.log_rules.specs.Sends.{due_sends};
+ghost use Rattle.log_rules.specs.Change.{waiting_of};
 ghost use Rattle.log_rules.specs.Laws.Order.{Rising};
-ghost use Rattle.log_rules.specs.Laws.Due.{due_pick};
 ghost use Rattle.log_rules.specs.Code.Slots.{slots_in, slot_at, Slotted};
 ghost use Rattle.log_rules.specs.Code.Flags.{Holds, chosen, AllWait};
 ghost use Rattle.log_touch.specs.Code.Later.{Later};
@@ -268,36 +265,4 @@ pub fn needed(s: &[u8], object: usize, found: &mut [u8]) -> usize
 {
     clear(found);
     closed(s, found, one(object))
-}
-
-// Picks the operations that are due at a time: a flag of 1 at each slot "whose due time is not after the clock", and of 0 at the others.
-fn pick_due(s: &[u8], time: usize, found: &mut [u8])
-    requires slotted { Slotted s.now }
-    requires s_in_bounds { length (slots_in s.now) ≤ length found.old }
-    requires rising { Rising sequence_of (slots_in s.now) }
-    ensures { Picked (due_pick time (slots_in s.now)) (slots_in s.now) found.new }
-{
-    let count = s.len() / SLOT;
-    let mut i = 0;
-    while i < count {
-        if log_slots::slot::due(s, i) <= time {
-            found[i] = 1;
-        } else {
-            found[i] = 0;
-        }
-        i += 1;
-    }
-}
-
-// "every operation whose due time is not after the clock, with its predecessors": a flag for each slot, and how many they are.
-pub fn due(s: &[u8], time: usize, found: &mut [u8]) -> usize
-    requires slotted { Slotted s.now }
-    requires s_in_bounds { length (slots_in s.now) ≤ length found.old }
-    requires rising { Rising sequence_of (slots_in s.now) }
-    ensures these { chosen found.new (slots_in s.now) ≡ due_sends time (due_of (slots_in s.now)) }
-    ensures wait { AllWait found.new (slots_in s.now) }
-    ensures count { result ≡ length (due_sends time (due_of (slots_in s.now))) }
-{
-    pick_due(s, time, found);
-    closed(s, found, none())
 }

@@ -3,9 +3,7 @@ use Rattle.std.specs.Prelude.{ℕ, ◌+◌, List, [], ◌∷◌, ◌++◌, map, 
 use Rattle.std.proofs.Math.Option.{Option, none, some}
 use Rattle.record.specs.Operation.{Operation, Record}
 use Rattle.log_rules.specs.Programs.{with, without, union}
-use Rattle.rows.specs.Due.{due_time}
-use Rattle.log_rules.specs.Standing.{Standing, seen}
-use Rattle.log_rules.specs.Slot.{waiting, lost, Slot, with_state, with_dependents, Log, with_next, with_marks, with_standing, with_slots, is_waiting, sequence_of}
+use Rattle.log_rules.specs.Slot.{waiting, lost, Slot, with_state, with_dependents, Log, with_next, with_marks, with_slots, is_waiting, sequence_of}
 use Rattle.log_rules.specs.Depend.{noted}
 
 -- the waiting operations, in issue order
@@ -13,34 +11,19 @@ unfoldable pub waiting_of : List Slot → List Record
 waiting_of [] = []
 waiting_of (s ∷ l) = cond (is_waiting s) (s.recorded ∷ waiting_of l) (waiting_of l)
 
--- what waits, with the time when it is due
-pub record Waiting : Type 0 where
-  pub recorded : Record
-  pub due : ℕ
-
--- the waiting operations with their due times, in issue order
-unfoldable pub due_of : List Slot → List Waiting
-due_of [] = []
-due_of (s ∷ l) = cond (is_waiting s) (record { recorded = s.recorded; due = s.due } ∷ due_of l) (due_of l)
-
 -- an accepted call brings the dependence of its program on what its operands reach
 abbrev pub note : ℕ → List ℕ → Log → Log
 note p ops l = with_slots (noted p ops l.slots) l
 
 -- an operation waits, and its issuer depends on it
-abbrev pub waiting_slot : Record → ℕ → Slot
-waiting_slot r due = record { state = waiting; dependents = with 0 r.program; recorded = r; due = due }
+abbrev pub waiting_slot : Record → Slot
+waiting_slot r = record { state = waiting; dependents = with 0 r.program; recorded = r }
 
--- "its issue time plus the seconds for the length" (document 02, K5): when an operation is due that is issued now for so many bytes
-abbrev pub due_now : Standing → ℕ → ℕ
-due_now t n = due_time t.latest n t.rows
-
--- "takes one sequence number and waits": an operation of a program, issued by a clock, whose file then has so many bytes
-unfoldable pub issue : ℕ → ℕ → ℕ → Operation → Log → Log
-issue p clock n o l =
+-- "takes one sequence number and waits"
+unfoldable pub issue : ℕ → Operation → Log → Log
+issue p o l =
     let r : Record = record { sequence = l.head.next; program = p; operation = o } in
-    let t = seen clock l.head.standing in
-    with_standing t (with_next (l.head.next + 1) (with_slots (l.slots ++ (waiting_slot r (due_now t n) ∷ [])) l))
+    with_next (l.head.next + 1) (with_slots (l.slots ++ (waiting_slot r ∷ [])) l)
 
 -- "frees its slot": later slots move down by one
 unfoldable pub removed : (Slot → Bool) → List Slot → List Slot

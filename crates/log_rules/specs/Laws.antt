@@ -1,5 +1,4 @@
 pub mod Order
-pub mod Standing
 pub mod Slot
 pub mod Head
 pub mod Stored
@@ -9,7 +8,6 @@ pub mod Freed
 pub mod Bit
 pub mod Program
 pub mod Change
-pub mod Due
 pub mod Swap
 pub mod Partition
 pub mod Loss

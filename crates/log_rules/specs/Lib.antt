@@ -1,10 +1,8 @@
 pub mod Programs
-pub mod Standing
 pub mod Slot
 pub mod Stored
 pub mod Order
 pub mod Depend
-pub mod Due
 pub mod Change
 pub mod Sends
 pub mod Code

@@ -8,32 +8,21 @@ use Rattle.record.specs.Operation.{Record}
 use Rattle.record.specs.Fields.{encode}
 use Rattle.record.specs.Decode.{decode_record}
 use Rattle.volume_entry.specs.Stored.{padded, same_bytes}
-use Rattle.log_rules.specs.Standing.{encode_standing, read_standing}
 use Rattle.log_rules.specs.Slot.{waiting, lost, state_number, Slot, Head, Log, well_formed_log}
 
--- "next sequence number (4, from 1), marked programs (4, bit p for program p)", "the latest time, the row count and 16 rows" (document 02,
--- K5): where they stand, and the bytes of the head
+-- "next sequence number (4, from 1), marked programs (4, bit p for program p)": where they stand, and the bytes of the head
 abbrev pub next_at : ℕ
 next_at = 0
 
 abbrev pub marks_at : ℕ
 marks_at = 4
 
-abbrev pub standing_at : ℕ
-standing_at = 8
-
-abbrev pub row_count_at : ℕ
-row_count_at = 12
-
-abbrev pub rows_at : ℕ
-rows_at = 16
-
 abbrev pub head_bytes : ℕ
-head_bytes = 208
+head_bytes = 8
 
--- "m slots of 1,048 bytes"; "The slot gains 4 bytes at its end" (document 02, K5)
+-- "m slots of 1,048 bytes"
 abbrev pub slot_bytes : ℕ
-slot_bytes = 1052
+slot_bytes = 1048
 
 -- where the dependents stand in a slot: behind "state (1: 0 free, 1 waiting, 2 lost), 3 zero bytes"
 abbrev pub dependents_at : ℕ
@@ -56,17 +45,17 @@ log_bytes m = head_bytes + m * slot_bytes
 abbrev pub encode_front : Slot → List ℕ
 encode_front s = bytes 1 (state_number s.state) ++ (replicate 3 0 ++ bytes 4 s.dependents)
 
--- ".. a loss record, zeros", and the due time
+-- ".. a loss record, zeros"
 unfoldable pub encode_slot : Slot → List ℕ
-encode_slot s = encode_front s ++ (padded record_bytes (encode s.recorded) ++ bytes 4 s.due)
+encode_slot s = encode_front s ++ padded record_bytes (encode s.recorded)
 
 unfoldable pub encode_slots : List Slot → List ℕ
 encode_slots [] = []
 encode_slots (s ∷ l) = encode_slot s ++ encode_slots l
 
--- "next sequence number (4 ..), marked programs (4 ..)", and what stands behind them
+-- "next sequence number (4 ..), marked programs (4 ..)"
 unfoldable pub encode_head : Head → List ℕ
-encode_head h = bytes 4 h.next ++ (bytes 4 h.marks ++ encode_standing h.standing)
+encode_head h = bytes 4 h.next ++ bytes 4 h.marks
 
 -- the head, "then m slots", the free ones zero
 unfoldable pub encode_log : ℕ → Log → List ℕ
@@ -77,16 +66,15 @@ abbrev pub record_part : List ℕ → List ℕ
 record_part s = take record_bytes (drop record_start s)
 
 -- the used slot that a slot's bytes tell of, if their state is one and a record stands behind it
-abbrev pub slot_from : ℕ → ℕ → Option Record → ℕ → Option Slot
-slot_from zero d r t = none
-slot_from (suc zero) d none t = none
-slot_from (suc zero) d (some r) t = some (record { state = waiting; dependents = d; recorded = r; due = t })
-slot_from (suc (suc k)) d none t = none
-slot_from (suc (suc k)) d (some r) t = some (record { state = lost; dependents = d; recorded = r; due = t })
+abbrev pub slot_from : ℕ → ℕ → Option Record → Option Slot
+slot_from zero d r = none
+slot_from (suc zero) d none = none
+slot_from (suc zero) d (some r) = some (record { state = waiting; dependents = d; recorded = r })
+slot_from (suc (suc k)) d none = none
+slot_from (suc (suc k)) d (some r) = some (record { state = lost; dependents = d; recorded = r })
 
 unfoldable pub read_slot : List ℕ → Option Slot
-read_slot s =
-    slot_from (get_or s 0 0) (numeral (take 4 (drop dependents_at s))) (decode_record (record_part s)) (numeral (take 4 (drop record_end s)))
+read_slot s = slot_from (get_or s 0 0) (numeral (take 4 (drop dependents_at s))) (decode_record (record_part s))
 
 -- "Used slots come first": those up to the first that is none
 abbrev pub on_slot : Option Slot → List Slot → List Slot
@@ -99,8 +87,7 @@ read_slots (suc m) s = on_slot (read_slot (take slot_bytes s)) (read_slots m (dr
 
 -- the head that bytes begin with
 unfoldable pub read_head : List ℕ → Head
-read_head s =
-    record { next = numeral (take 4 (drop next_at s)); marks = numeral (take 4 (drop marks_at s)); standing = read_standing (drop standing_at s) }
+read_head s = record { next = numeral (take 4 (drop next_at s)); marks = numeral (take 4 (drop marks_at s)) }
 
 unfoldable pub read_log : ℕ → List ℕ → Log
 read_log m s = record { head = read_head s; slots = read_slots m (drop head_bytes s) }

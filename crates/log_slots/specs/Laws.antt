@@ -1,4 +1,3 @@
 pub mod Slot
 pub mod Program
 pub mod Head
-pub mod Rows

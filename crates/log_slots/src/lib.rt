@@ -4,25 +4,17 @@ pub mod head;
 pub mod programs;
 pub mod slot;
 
-// "next sequence number (4 ..), marked programs (4 ..)", "the latest time, the row count and 16 rows" (document 02, K5): where they
-// stand, and the bytes of the head.
+// "next sequence number (4 ..), marked programs (4 ..)": where they stand, and the bytes of the head.
 pub const NEXT_AT: usize = 0;
 
 pub const MARKS_AT: usize = 4;
 
-pub const LATEST_AT: usize = 8;
+pub const HEAD: usize = 8;
 
-pub const ROW_COUNT_AT: usize = 12;
+// "m slots of 1,048 bytes".
+pub const SLOT: usize = 1048;
 
-pub const ROWS_AT: usize = 16;
-
-pub const HEAD: usize = 208;
-
-// "m slots of 1,048 bytes"; "The slot gains 4 bytes at its end" (document 02, K5).
-pub const SLOT: usize = 1052;
-
-// Where the dependents and the loss record stand in a slot, behind "state (1 ..), 3 zero bytes"; and where the record's part ends
-// and the due time stands.
+// Where the dependents and the loss record stand in a slot, behind "state (1 ..), 3 zero bytes"; and where the record's part ends.
 pub const DEPENDENTS_AT: usize = 4;
 
 pub const RECORD_START: usize = 8;

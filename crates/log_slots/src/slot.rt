@@ -50,15 +50,6 @@ pub fn dependents(s: &[u8], i: usize) -> usize
     four_at(slot(s, i), DEPENDENTS_AT)
 }
 
-// When a slot's operation is due, behind the record's part.
-pub fn due(s: &[u8], i: usize) -> usize
-    requires slotted { Slotted s.now }
-    requires i_in_bounds { i < length (slots_in s.now) }
-    ensures { (result ≡ (slot_at (slots_in s.now) i).due) × (result < 4294967296) }
-{
-    four_at(slot(s, i), RECORD_END)
-}
-
 // The sequence number of a slot's operation, behind the record's map.
 pub fn sequence(s: &[u8], i: usize) -> usize
     requires slotted { Slotted s.now }

@@ -67,17 +67,6 @@ operands (append o f b) = o ∷ []
 operands (set_length o f) = o ∷ []
 operands (forder l) = l
 
--- the object of an operation; forder, which lists objects, has none
-abbrev pub object_of : Operation → Option ℕ
-object_of (create_file o p n) = some o
-object_of (make_directory o p n) = some o
-object_of (remove o p n) = some o
-object_of (rename o p q d n m) = some o
-object_of (overwrite o f b) = some o
-object_of (append o f b) = some o
-object_of (set_length o f) = some o
-object_of (forder l) = none
-
 -- what an overwrite writes and where, for "two overwrites with a common byte"; none of any other operation
 pub record Stretch : Type 0 where
   pub offset : ℕ

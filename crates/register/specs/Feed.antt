@@ -1,23 +1,17 @@
--- Document 01, "The register" and "Order and dependence": how a call's arguments and answers change the register, sentence by sentence;
--- document 02, K5: it "reckons rows and times from the calls as the log does".
+-- Document 01, "The register" and "Order and dependence": how a call's arguments and answers change the register, sentence by sentence.
 -- Nothing here goes by what a call does to the buffers.
-use Rattle.std.specs.Prelude.{ℕ, ◌+◌, ◌-◌, min, List, [], ◌∷◌, ◌++◌, map, Bool, false, ◌&&◌, ◌||◌, cond, length, get_or, drop, leb, eqb}
+use Rattle.std.specs.Prelude.{ℕ, ◌+◌, ◌-◌, List, [], ◌∷◌, ◌++◌, map, Bool, false, ◌&&◌, ◌||◌, cond, length, get_or, drop, leb, eqb}
 use Rattle.std.proofs.Math.Option.{Option, none, some}
 use Rattle.std.proofs.Math.ListN
 use Rattle.returned.specs.Returned
 use Rattle.paths.specs.Path.{components}
-use Rattle.record.specs.Operation.{Operation, Record, operands, object_of}
+use Rattle.record.specs.Operation.{Operation, Record, operands}
 use Rattle.record.specs.Fields.{member, objects_of}
-use Rattle.rows.specs.Rows.{Row, in_row}
-use Rattle.rows.specs.Stored.{rows_in}
-use Rattle.rows.specs.Due.{last_time, time_now}
-use Rattle.volume_entry.specs.Entry.{is_file, contents_of}
+use Rattle.volume_entry.specs.Entry.{contents_of}
 use Rattle.volume_tree.specs.Volume.{Volume, entry_at, search}
-use Rattle.session.specs.Class.{Question, lookup, list, stat, read, Change, create_file, make_directory, remove_file, remove_directory, rename, write, set_length, forder, push, fsync, cut, send_due, take, renew}
-use Rattle.log_rules.specs.Standing.{with_latest, with_rows}
-use Rattle.session.specs.Call.{Issuer, Call, question, change, link, recovery, load_rows, Answer}
-use Rattle.register.specs.Replay.{replay}
-use Rattle.register.specs.Register.{Register, Acknowledged, waiting, sent, lost, is_waiting, recorded_of, fated, view_of, with_operations, with_touch, with_renewal, later, with_times}
+use Rattle.session.specs.Class.{Question, lookup, list, stat, read, Change, create_file, make_directory, remove_file, remove_directory, rename, write, set_length, forder, push, fsync, cut, take, renew}
+use Rattle.session.specs.Call.{Call, question, change, link, recovery, Answer}
+use Rattle.register.specs.Register.{Register, Acknowledged, waiting, sent, lost, is_waiting, recorded_of, fated, view_of, with_operations, with_touch, with_renewal, later}
 use Rattle.register.specs.History.{directly}
 
 -- an operation directly precedes one of some
@@ -97,48 +91,16 @@ operands_in v (read o f s) = o ∷ []
 abbrev pub enter : ℕ → List ℕ → Register → Register
 enter p ops r = later (with_touch (record { program = p; touched = ops; time = r.happened }) r)
 
--- "an earlier time than one already seen counts as the latest seen" (document 02, K5)
-abbrev pub time_by : ℕ → Register → ℕ
-time_by clock r = time_now clock r.standing.latest
+-- "An accepted change or forder adds its operation, waiting, numbered on from 1": one after the other, each with its operands
+abbrev pub acknowledged : ℕ → Operation → Register → Acknowledged
+acknowledged p o r = record { recorded = record { sequence = length r.operations + 1; program = p; operation = o }; issued = r.happened; fate = waiting }
 
-abbrev pub seeing : ℕ → Register → Register
-seeing clock r = with_times (with_latest (time_by clock r) r.standing) r
+abbrev pub add : ℕ → Operation → Register → Register
+add p o r = later (with_operations (r.operations ++ (acknowledged p o r ∷ [])) r)
 
--- the seconds of the rows in which a length lies: "Each length from 0 to 65,536 lies in exactly one row"
-unfoldable pub seconds_over : ℕ → List Row → ℕ
-seconds_over n [] = 0
-seconds_over n (w ∷ l) = cond (in_row n w) (w.seconds + seconds_over n l) (seconds_over n l)
-
--- "the length .. of the file that its object then is; an operation without one counts as length 0"
-abbrev pub length_of : Volume → Option ℕ → ℕ
-length_of v none = 0
-length_of v (some o) = cond (is_file (entry_at v o)) (length (contents_of (entry_at v o))) 0
-
--- "An operation's due time is its issue time plus the seconds for the length, after it .."; "It stops at 4,294,967,295, and is that before
--- rows are loaded": of an operation that is issued at a time and leaves a volume
-abbrev pub due_in : ℕ → List Row → Volume → Operation → ℕ
-due_in time rows v o = cond (eqb (length rows) 0) last_time (min last_time (time + seconds_over (length_of v (object_of o)) rows))
-
--- "An accepted change or forder adds its operation, waiting, numbered on from 1": one after the other, each with its operands. It is due
--- by the replay with it
-abbrev pub next_record : ℕ → Operation → Register → Record
-next_record p o r = record { sequence = length r.operations + 1; program = p; operation = o }
-
-abbrev pub acknowledged : Issuer → Operation → Register → Acknowledged
-acknowledged i o r =
-    record {
-      recorded = next_record i.program o r;
-      issued = r.happened;
-      fate = waiting;
-      due = due_in (time_by i.clock r) r.standing.rows (replay (view_of r) (next_record i.program o r ∷ [])) o;
-    }
-
-abbrev pub add : Issuer → Operation → Register → Register
-add i o r = later (with_operations (r.operations ++ (acknowledged i o r ∷ [])) (seeing i.clock r))
-
-unfoldable pub add_all : Issuer → List Operation → Register → Register
-add_all i [] r = r
-add_all i (o ∷ os) r = add_all i os (add i o (enter i.program (operands o) r))
+unfoldable pub add_all : ℕ → List Operation → Register → Register
+add_all p [] r = r
+add_all p (o ∷ os) r = add_all p os (add p o (enter p (operands o) r))
 
 -- "sends its operation": the one of a number, and those of some records
 abbrev pub sending : ℕ → Acknowledged → Acknowledged
@@ -162,25 +124,15 @@ lose_all r = later (with_operations (map (losing r.happened) r.operations) r)
 abbrev pub renewing : ℕ → Register → Register
 renewing p r = later (with_renewal (record { program = p; time = r.happened }) r)
 
--- "every operation whose due time is not after the clock, with its predecessors, in issue order" (document 02, K5)
-abbrev pub is_due : ℕ → Acknowledged → Bool
-is_due now a = leb a.due now
-
-abbrev pub due_for : ℕ → Register → List Record
-due_for clock r = covered_in (is_due (time_by clock r)) r
-
--- "An accepted push sends its operation, an accepted fsync the d it needs"; "A cut, accepted .., makes all waiting ones lost." Loaded rows
--- are kept, and the sending call's are "ordinary sends, in the register too"
+-- "An accepted push sends its operation, an accepted fsync the d it needs"; "A cut, accepted .., makes all waiting ones lost."
 abbrev pub accepted : Call → Register → Register
 accepted (question p q) r = enter p (operands_in (view_of r) q) r
-accepted (change i c) r = add_all i (operations_in (view_of r) c) r
+accepted (change i c) r = add_all i.program (operations_in (view_of r) c) r
 accepted (link (push q)) r = send_one q r
 accepted (link (fsync p o k)) r = send_all (needed_for o r) (enter p (o ∷ []) r)
 accepted (link cut) r = lose_all r
-accepted (link (send_due c)) r = send_all (due_for c r) (seeing c r)
 accepted (recovery p (take s)) r = r
 accepted (recovery p renew) r = renewing p r
-accepted (load_rows s) r = with_times (with_rows (rows_in s) r.standing) r
 
 -- "refusal 17 the first k", and a cut "at the end of refusal 17": "Fsync counts as such a call even if the link fails"; "refusal 2 as many
 -- as it reports"
@@ -189,10 +141,6 @@ broken_off p o k a r =
     cond (eqb a.returned Returned.link_lost) (lose_all (send_all (ListN.take k (needed_for o r)) (enter p (o ∷ []) r)))
     (cond (eqb a.returned Returned.damaged) (send_all (ListN.take (get_or a.results 0 0) (needed_for o r)) r) r)
 
--- the sending call: "one that does not apply gives 2, with the clock and the sends before it kept, and these reported"
-abbrev pub stopped_due : ℕ → Answer → Register → Register
-stopped_due c a r = cond (eqb a.returned Returned.damaged) (send_all (ListN.take (get_or a.results 0 0) (due_for c r)) (seeing c r)) r
-
 -- "Nothing else here changes it."
 abbrev pub refused : Call → Answer → Register → Register
 refused (question p q) a r = r
@@ -200,9 +148,7 @@ refused (change i c) a r = r
 refused (link (push q)) a r = r
 refused (link (fsync p o k)) a r = broken_off p o k a r
 refused (link cut) a r = r
-refused (link (send_due c)) a r = stopped_due c a r
 refused (recovery p l) a r = r
-refused (load_rows s) a r = r
 
 -- "A register is fed only each call's arguments, the three buffers apart, and its answers."
 unfoldable pub feed : Call → Answer → Register → Register

@@ -4,7 +4,6 @@ pub mod Invariant
 pub mod Pick
 pub mod Send
 pub mod Operation
-pub mod Reckon
 pub mod Kept
 pub mod Timed
 pub mod Good

@@ -2,7 +2,6 @@
 use Rattle.std.specs.Prelude.{ℕ, ◌+◌, List, [], ◌∷◌, ◌++◌, Bool, true, false, not, ◌||◌, cond}
 use Rattle.record.specs.Operation.{Record}
 use Rattle.volume_tree.specs.Volume.{Volume}
-use Rattle.log_rules.specs.Standing.{Standing, empty_standing}
 use Rattle.register.specs.Replay.{replay}
 
 -- "the acknowledged operations, each waiting, sent or lost"; a lost one with the time of its loss
@@ -17,8 +16,6 @@ pub record Acknowledged : Type 0 where
   pub recorded : Record
   pub issued : ℕ
   pub fate : Fate
-  -- when it is due (document 02, K5)
-  pub due : ℕ
 
 -- an accepted call of a program with its operands, and an accepted renewal, each with its time: the history that dependence and marks
 -- are told from
@@ -31,68 +28,37 @@ pub record Renewal : Type 0 where
   pub program : ℕ
   pub time : ℕ
 
--- "It holds the server volume as mounted and the acknowledged operations", in issue order; the history of calls; and "rows and times"
--- (document 02, K5), none after a mount
+-- "It holds the server volume as mounted and the acknowledged operations", in issue order; and the history of calls
 pub record Register : Type 0 where
   pub mounted : Volume
   pub operations : List Acknowledged
   pub touches : List Touch
   pub renewals : List Renewal
   pub happened : ℕ
-  pub standing : Standing
 
 -- as an accepted mount leaves it
 abbrev pub begun : Volume → Register
-begun v = record { mounted = v; operations = []; touches = []; renewals = []; happened = 0; standing = empty_standing }
+begun v = record { mounted = v; operations = []; touches = []; renewals = []; happened = 0 }
 
--- with other operations, with one more call of a program, with one more renewal, a time later, and with another clock or other rows
+-- with other operations, with one more call of a program, with one more renewal, and a time later
 abbrev pub with_operations : List Acknowledged → Register → Register
-with_operations l r =
-    record { mounted = r.mounted; operations = l; touches = r.touches; renewals = r.renewals; happened = r.happened; standing = r.standing }
+with_operations l r = record { mounted = r.mounted; operations = l; touches = r.touches; renewals = r.renewals; happened = r.happened }
 
 abbrev pub with_touch : Touch → Register → Register
-with_touch t r =
-    record {
-      mounted = r.mounted;
-      operations = r.operations;
-      touches = r.touches ++ (t ∷ []);
-      renewals = r.renewals;
-      happened = r.happened;
-      standing = r.standing;
-    }
+with_touch t r = record { mounted = r.mounted; operations = r.operations; touches = r.touches ++ (t ∷ []); renewals = r.renewals; happened = r.happened }
 
 abbrev pub with_renewal : Renewal → Register → Register
-with_renewal n r =
-    record {
-      mounted = r.mounted;
-      operations = r.operations;
-      touches = r.touches;
-      renewals = r.renewals ++ (n ∷ []);
-      happened = r.happened;
-      standing = r.standing;
-    }
+with_renewal n r = record { mounted = r.mounted; operations = r.operations; touches = r.touches; renewals = r.renewals ++ (n ∷ []); happened = r.happened }
 
 abbrev pub later : Register → Register
-later r =
-    record {
-      mounted = r.mounted;
-      operations = r.operations;
-      touches = r.touches;
-      renewals = r.renewals;
-      happened = r.happened + 1;
-      standing = r.standing;
-    }
-
-abbrev pub with_times : Standing → Register → Register
-with_times t r =
-    record { mounted = r.mounted; operations = r.operations; touches = r.touches; renewals = r.renewals; happened = r.happened; standing = t }
+later r = record { mounted = r.mounted; operations = r.operations; touches = r.touches; renewals = r.renewals; happened = r.happened + 1 }
 
 -- the record of an acknowledged operation, and the operation with another fate
 abbrev pub recorded_of : Acknowledged → Record
 recorded_of a = a.recorded
 
 abbrev pub fated : Fate → Acknowledged → Acknowledged
-fated f a = record { recorded = a.recorded; issued = a.issued; fate = f; due = a.due }
+fated f a = record { recorded = a.recorded; issued = a.issued; fate = f }
 
 abbrev pub is_waiting : Acknowledged → Bool
 is_waiting a = waits a.fate

@@ -3,7 +3,7 @@ use Rattle.std.specs.Prelude.{ℕ, ◌+◌, ◌≡◌, Bool, ◌&&◌, cond, tak
 use mathlib.Core.List.{List, [], ◌∷◌, ◌++◌, map, Memᴰ}
 use Rattle.record.specs.Fields.{encode}
 use Rattle.session.specs.Class
-use Rattle.session.specs.Call.{Call, question, change, link, recovery, load_rows, Answer}
+use Rattle.session.specs.Call.{Call, question, change, link, recovery, Answer}
 use Rattle.register.specs.Register.{Register, Acknowledged, is_lost, chosen}
 use Rattle.register.specs.Run.{Moment}
 
@@ -21,7 +21,6 @@ wrote p (change q c) a = []
 wrote p (link l) a = []
 wrote p (recovery q (Class.take own)) a = cond (eqb a.returned 0 && eqb q p) (take (get_or a.results 0 0) a.buffer ∷ []) []
 wrote p (recovery q Class.renew) a = []
-wrote p (load_rows s) a = []
 
 -- what a program's accepted takes wrote over a list of calls, in order
 unfoldable pub fetched_by : ℕ → List Moment → List (List ℕ)
@@ -35,7 +34,6 @@ took_one p (change q c) a = 0
 took_one p (link l) a = 0
 took_one p (recovery q (Class.take own)) a = cond (eqb a.returned 0 && eqb q p) 1 0
 took_one p (recovery q Class.renew) a = 0
-took_one p (load_rows s) a = 0
 
 unfoldable pub accepted_takes : ℕ → List Moment → ℕ
 accepted_takes p [] = 0

@@ -86,18 +86,6 @@ short_buffer = 19
 abbrev pub bad_record : ℕ
 bad_record = 20
 
--- "a length up to 65,536 in no row" (document 02, K5)
-abbrev pub gap : ℕ
-gap = 21
-
--- "one in more than one row" (document 02, K5)
-abbrev pub overlap : ℕ
-overlap = 22
-
--- "seconds out of range" (document 02, K5)
-abbrev pub bad_seconds : ℕ
-bad_seconds = 23
-
 -- "The lowest number wins": of the numbers whose reasons hold the one of the lowest rank, which is the number itself
 abbrev pub rank_of : ℕ → ℕ
 rank_of n = n

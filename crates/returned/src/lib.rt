@@ -46,12 +46,6 @@ pub const SHORT_BUFFER: usize = 19;
 
 pub const BAD_RECORD: usize = 20;
 
-pub const GAP: usize = 21;
-
-pub const OVERLAP: usize = 22;
-
-pub const BAD_SECONDS: usize = 23;
-
 // The rank of a number: of two that refuse a call the one of the lower rank wins.
 pub fn rank(number: usize) -> usize
     ensures { result ≡ rank_of number }

@@ -1,10 +1,9 @@
 -- Document 01, "Calls": the calls with their arguments (the three buffers apart), what each answers, and what they are
 -- lent.
-use Rattle.std.specs.Prelude.{ℕ, List, [], Bool, true, ◌&&◌, length, replicate, eqb}
+use Rattle.std.specs.Prelude.{ℕ, List, [], Bool, ◌&&◌, length, replicate, eqb}
 use Rattle.buffer.specs.Geometry.{good_objects, good_blocks, good_capacity}
 use Rattle.volume_tree.specs.Stored.{volume_bytes}
 use Rattle.log_rules.specs.Stored.{log_bytes}
-use Rattle.rows.specs.Stored.{rows_lent}
 use Rattle.session.specs.Class.{Question, Change, Link, Recovery}
 use Rattle.session.specs.Class
 
@@ -26,14 +25,12 @@ pub record Buffers : Type 0 where
 abbrev pub buffers : List ℕ → List ℕ → List ℕ → Buffers
 buffers s v l = record { server = s; view = v; log = l }
 
--- who makes a change: a program, which is given by its number, and by which clock: "The clock (4 bytes, seconds) comes with each change,
--- forder and the new call" (document 02, K5)
+-- who makes a change: a program, which is given by its number
 pub record Issuer : Type 0 where
   pub program : ℕ
-  pub clock : ℕ
 
-abbrev pub issuer : ℕ → ℕ → Issuer
-issuer p c = record { program = p; clock = c }
+abbrev pub issuer : ℕ → Issuer
+issuer p = record { program = p }
 
 -- a call with its arguments; a question and a recovery are a program's too
 pub data Call : Type 0 where
@@ -41,8 +38,6 @@ pub data Call : Type 0 where
   change : Issuer → Change → Call
   link : Link → Call
   recovery : ℕ → Recovery → Call
-  -- rows: "Loading is lent them as 12 bytes a row" (document 02, K5)
-  load_rows : List ℕ → Call
 
 -- the calls by their names, each with its program or issuer first where it has one
 abbrev pub lookup : ℕ → List ℕ → Call
@@ -90,9 +85,6 @@ fsync p o k = link (Class.fsync p o k)
 abbrev pub cut : Call
 cut = link Class.cut
 
-abbrev pub send_due : ℕ → Call
-send_due c = link (Class.send_due c)
-
 abbrev pub take : ℕ → List ℕ → Call
 take p s = recovery p (Class.take s)
 
@@ -119,10 +111,8 @@ result_count (change i c) = 1
 result_count (link (Class.push q)) = 0
 result_count (link (Class.fsync p o k)) = 1
 result_count (link Class.cut) = 0
-result_count (link (Class.send_due c)) = 1
 result_count (recovery p (Class.take s)) = 1
 result_count (recovery p Class.renew) = 0
-result_count (load_rows s) = 0
 
 -- the buffer that a call is lent to write, before the call; none where it has none
 abbrev pub own_buffer : Call → List ℕ
@@ -134,7 +124,6 @@ own_buffer (change i c) = []
 own_buffer (link l) = []
 own_buffer (recovery p (Class.take s)) = s
 own_buffer (recovery p Class.renew) = []
-own_buffer (load_rows s) = []
 
 -- "The other results of a refusal are 0, and no buffer changes"
 abbrev pub refusal : ℕ → Call → Answer
@@ -151,11 +140,3 @@ server_fits g s = eqb (length s) (volume_bytes g.objects g.blocks)
 unfoldable pub lengths_fit : Geometry → Buffers → Bool
 lengths_fit g s =
     server_fits g s.server && (server_fits g s.view && eqb (length s.log) (log_bytes g.capacity))
-
--- what else a call is lent has a length as it should be: "over 16 rows, or a part of one, are refusal 1"
-abbrev pub argument_fits : Call → Bool
-argument_fits (question p q) = true
-argument_fits (change i c) = true
-argument_fits (link l) = true
-argument_fits (recovery p l) = true
-argument_fits (load_rows s) = rows_lent s

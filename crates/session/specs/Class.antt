@@ -35,8 +35,6 @@ pub data Link : Type 0 where
   -- program, object, sends that the link still carries
   fsync : ℕ → ℕ → ℕ → Link
   cut : Link
-  -- clock: "A new call sends every operation whose due time is not after the clock" (document 02, K5)
-  send_due : ℕ → Link
 
 -- what a program does about its losses: "Take and renew skip 4."
 pub data Recovery : Type 0 where

@@ -8,26 +8,20 @@ use Rattle.record.specs.Operation.{Operation, Record, operands}
 use Rattle.volume_tree.specs.Volume.{Volume}
 use Rattle.volume_apply.specs.Apply.{apply}
 use Rattle.volume_lookup.specs.Lookup.{lookup_operands}
-use Rattle.rows.specs.Stored.{rows_in}
-use Rattle.rows.specs.Due.{time_now}
-use Rattle.log_rules.specs.Standing.{Standing, with_rows, seen}
-use Rattle.log_rules.specs.Slot.{with_standing}
 use Rattle.log_rules.specs.Order.{needed}
-use Rattle.log_rules.specs.Due.{file_length}
-use Rattle.log_rules.specs.Sends.{due_sends}
 use Rattle.log_rules.specs.Change
 use Rattle.session.specs.Told.{Told}
-use Rattle.session.specs.Class.{Question, lookup, list, stat, read, push, fsync, cut, send_due}
+use Rattle.session.specs.Class.{Question, lookup, list, stat, read, push, fsync, cut}
 use Rattle.session.specs.Class
-use Rattle.session.specs.Call.{Issuer, Call, question, change, link, recovery, load_rows, Answer}
+use Rattle.session.specs.Call.{Call, question, change, link, recovery, Answer}
 use Rattle.session.specs.Issue.{operations_of}
 use Rattle.session.specs.Model.{Model, with_server, with_view, with_log}
 
 pub data Effect : Type 0 where
   -- program, operands: an accepted call brings the program's dependence on what its operands reach
   note : ℕ → List ℕ → Effect
-  -- who issues it, operation: it alters the view, takes a sequence number and waits
-  issue : Issuer → Operation → Effect
+  -- program, operation: it alters the view, takes a sequence number and waits
+  issue : ℕ → Operation → Effect
   -- sequence number: the waiting operation is applied to the server and its slot freed
   send : ℕ → Effect
   -- all waiting operations become lost ones, their dependents are marked, and the view shows the server
@@ -36,8 +30,6 @@ pub data Effect : Type 0 where
   take : ℕ → Effect
   -- program: its mark is cleared
   renew : ℕ → Effect
-  -- the latest time and the rows are set (document 02, K5)
-  stand : Standing → Effect
 
 -- the operation that was found under a sequence number is sent
 abbrev pub sent_found : Option Record → Model → Model
@@ -46,10 +38,8 @@ sent_found (some r) x = with_server (apply x.server r.operation) (with_log (Chan
 
 unfoldable pub perform : Effect → Model → Model
 perform (note p ops) x = with_log (Change.note p ops x.log) x
--- "Each accepted change, and forder, alters the view, takes one sequence number and waits"; "The server is untouched." It is due by the
--- length of its file in the view as it leaves it (document 02, K5)
-perform (issue i o) x =
-    with_view (apply x.view o) (with_log (Change.issue i.program i.clock (file_length (apply x.view o) o) o x.log) x)
+-- "Each accepted change, and forder, alters the view, takes one sequence number and waits"; "The server is untouched."
+perform (issue p o) x = with_view (apply x.view o) (with_log (Change.issue p o x.log) x)
 -- "Push sends the waiting operation of a given sequence number and frees its slot."
 perform (send q) x = sent_found (Change.waiting_at q x.log) x
 -- "Cut turns all waiting ones into lost ones, marks the dependents, and copies the server to the view."
@@ -57,7 +47,6 @@ perform discard x = with_view x.server (with_log (Change.discard x.log) x)
 -- "Take writes the earliest loss of a program and frees its slot. Renew clears its mark."
 perform (take p) x = with_log (Change.taken p x.log) x
 perform (renew p) x = with_log (Change.renewed p x.log) x
-perform (stand t) x = with_log (with_standing t x.log) x
 
 -- one after the other
 unfoldable pub perform_all : List Effect → Model → Model
@@ -69,9 +58,9 @@ abbrev pub sends : List Record → List Effect
 sends l = map (λ (r : Record). send r.sequence) l
 
 -- the operations of one call: each brings its dependence and is issued
-unfoldable pub issuing : Issuer → List Operation → List Effect
-issuing i [] = []
-issuing i (o ∷ os) = note i.program (operands o) ∷ issue i o ∷ issuing i os
+unfoldable pub issuing : ℕ → List Operation → List Effect
+issuing p [] = []
+issuing p (o ∷ os) = note p (operands o) ∷ issue p o ∷ issuing p os
 
 -- "Lookup's operands are the directories it searches and the object found; the others have their object."
 abbrev pub asked_of : Volume → Question → List ℕ
@@ -80,21 +69,15 @@ asked_of v (list o s) = o ∷ []
 asked_of v (stat o) = o ∷ []
 asked_of v (read o f s) = o ∷ []
 
--- what the sending call sends: "every operation whose due time is not after the clock, with its predecessors, in issue order"
-abbrev pub due_by : ℕ → Told → List Record
-due_by clock t = due_sends (time_now clock t.standing.latest) t.due
-
 -- what an accepted call does. Fsync "needs d sends .. in issue order"
 abbrev pub accepted_effects : Call → Told → List Effect
 accepted_effects (question p q) t = note p (asked_of t.view q) ∷ []
-accepted_effects (change i c) t = issuing i (operations_of t c)
+accepted_effects (change i c) t = issuing i.program (operations_of t c)
 accepted_effects (link (push q)) t = send q ∷ []
 accepted_effects (link (fsync p o k)) t = note p (o ∷ []) ∷ sends (needed o t.waiting)
 accepted_effects (link cut) t = discard ∷ []
-accepted_effects (link (send_due c)) t = stand (seen c t.standing) ∷ sends (due_by c t)
 accepted_effects (recovery p (Class.take s)) t = take p ∷ []
 accepted_effects (recovery p Class.renew) t = renew p ∷ []
-accepted_effects (load_rows s) t = stand (with_rows (rows_in s) t.standing) ∷ []
 
 -- "no buffer changes, with two exceptions. Refusal 17 sends the first k, then cuts": "Fsync counts as such a call even if the link
 -- fails". Refusal 2 "without a cut, keeps the sends before it", as many as it reports
@@ -103,20 +86,13 @@ broken_sync p o k a need =
     cond (eqb a.returned Returned.link_lost) (note p (o ∷ []) ∷ (sends (ListN.take k need) ++ (discard ∷ [])))
     (cond (eqb a.returned Returned.damaged) (sends (ListN.take (get_or a.results 0 0) need)) [])
 
--- the sending call refused with 2: "with the clock and the sends before it kept, and these reported"
-abbrev pub broken_due : ℕ → Answer → Told → List Effect
-broken_due c a t =
-    cond (eqb a.returned Returned.damaged) (stand (seen c t.standing) ∷ sends (ListN.take (get_or a.results 0 0) (due_by c t))) []
-
 abbrev pub refused_effects : Call → Answer → Told → List Effect
 refused_effects (question p q) a t = []
 refused_effects (change i c) a t = []
 refused_effects (link (push q)) a t = []
 refused_effects (link (fsync p o k)) a t = broken_sync p o k a (needed o t.waiting)
 refused_effects (link cut) a t = []
-refused_effects (link (send_due c)) a t = broken_due c a t
 refused_effects (recovery p l) a t = []
-refused_effects (load_rows s) a t = []
 
 -- what a call does, told from its arguments, its answer, and what it is told
 unfoldable pub effects_of : Call → Answer → Told → List Effect

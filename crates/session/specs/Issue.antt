@@ -8,7 +8,7 @@ use Rattle.volume_entry.specs.Entry.{contents_of}
 use Rattle.volume_tree.specs.Volume.{Volume, entry_at, search}
 use Rattle.session.specs.Told.{Told}
 use Rattle.session.specs.Class.{Change, create_file, make_directory, remove_file, remove_directory, rename, write, set_length, forder}
-use Rattle.session.specs.Call.{Call, question, change, link, recovery, load_rows}
+use Rattle.session.specs.Call.{Call, question, change, link, recovery}
 
 -- the object that a rename displaces: what its second name leads to, unless that is the object itself
 abbrev pub displaced : ℕ → Option ℕ → Option ℕ
@@ -55,4 +55,3 @@ issues t (question p q) = []
 issues t (change i c) = operations_of t c
 issues t (link l) = []
 issues t (recovery p l) = []
-issues t (load_rows s) = []

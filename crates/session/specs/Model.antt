@@ -7,7 +7,7 @@ use Rattle.volume_entry.specs.Entry.{is_used}
 use Rattle.volume_tree.specs.Volume.{Volume, entry_at}
 use Rattle.log_rules.specs.Programs.{holds}
 use Rattle.log_rules.specs.Slot.{Log, empty_log}
-use Rattle.log_rules.specs.Change.{waiting_of, due_of}
+use Rattle.log_rules.specs.Change.{waiting_of}
 use Rattle.session.specs.Told.{Told}
 use Rattle.session.specs.Call.{Geometry, Call, Answer, refusal}
 use Rattle.session.specs.Refusal.{Row, row, lowest_number}
@@ -19,8 +19,7 @@ pub record Model : Type 0 where
 
 -- what a model tells a call
 abbrev pub told_of : Model → Told
-told_of x =
-    record { view = x.view; waiting = waiting_of x.log.slots; due = due_of x.log.slots; standing = x.log.head.standing }
+told_of x = record { view = x.view; waiting = waiting_of x.log.slots }
 
 -- "copies it to the view and begins an empty log": what an accepted mount leaves of a server volume
 abbrev pub mounted_model : Volume → Model

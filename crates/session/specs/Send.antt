@@ -1,4 +1,4 @@
--- Document 01, "Calls": what push, fsync, cut, take and renew answer; document 02, K5: what loading rows and the sending call answer.
+-- Document 01, "Calls": what push, fsync, cut, take and renew answer.
 use Rattle.std.specs.Prelude.{ℕ, List, [], ◌∷◌, ◌++◌, Bool, true, false, not, cond, length, leb, ltb}
 use Rattle.std.proofs.Math.Option.{Option, none, some}
 use Rattle.std.proofs.Math.ListN
@@ -11,12 +11,9 @@ use Rattle.volume_tree.specs.Volume.{Volume}
 use Rattle.volume_apply.specs.Apply.{applies}
 use Rattle.log_rules.specs.Slot.{Log}
 use Rattle.log_rules.specs.Order.{needed, preceded}
-use Rattle.rows.specs.Rows.{has_gap, has_overlap, has_bad_seconds}
-use Rattle.rows.specs.Stored.{rows_in, rows_lent}
-use Rattle.rows.specs.Due.{time_now}
-use Rattle.log_rules.specs.Change.{waiting_of, due_of, waiting_at, earliest, is_loss_of}
-use Rattle.log_rules.specs.Sends.{applying, due_sends}
-use Rattle.session.specs.Call.{push, fsync, take, renew, load_rows, Answer, answer}
+use Rattle.log_rules.specs.Change.{waiting_of, waiting_at, earliest, is_loss_of}
+use Rattle.log_rules.specs.Sends.{applying}
+use Rattle.session.specs.Call.{push, fsync, take, renew, Answer, answer}
 use Rattle.session.specs.Refusal.{Row, row}
 use Rattle.session.specs.Model.{Model, unless, bad_program, program_rows, object_rows}
 
@@ -50,31 +47,6 @@ fsync_of p o k x =
     unless (fsync p o k)
     (sync_rows p o x.view x.log)
     (sync_answer k (needed o (waiting_of x.log.slots)) x.server)
-
--- what the sending call sends: "every operation whose due time is not after the clock, with its predecessors, in issue order". It "gives
--- their number; one that does not apply gives 2, with .. the sends before it kept, and these reported"
-abbrev pub due_at : ℕ → Log → List Record
-due_at clock l = due_sends (time_now clock l.head.standing.latest) (due_of l.slots)
-
-abbrev pub due_answer : List Record → Volume → Answer
-due_answer need v =
-    cond (ltb (applying need v) (length need)) (answer Returned.damaged (applying need v ∷ []) []) (answer Returned.accepted (length need ∷ []) [])
-
-unfoldable pub send_due_of : ℕ → Model → Answer
-send_due_of clock x = due_answer (due_at clock x.log) x.server
-
--- "Loading refuses with 21 a length up to 65,536 in no row, 22 one in more than one row and 23 seconds out of range, in that order", and
--- with 1 "over 16 rows, or a part of one"; it "gives 0"
-abbrev pub rows_rows : List ℕ → List Row
-rows_rows s =
-    row Returned.wrong_buffer (not (rows_lent s))
-    ∷ row Returned.gap (has_gap (rows_in s))
-    ∷ row Returned.overlap (has_overlap (rows_in s))
-    ∷ row Returned.bad_seconds (has_bad_seconds (rows_in s))
-    ∷ []
-
-unfoldable pub load_rows_of : List ℕ → Answer
-load_rows_of s = unless (load_rows s) (rows_rows s) (answer Returned.accepted [] [])
 
 -- the bytes of a loss
 abbrev pub loss_bytes : Option Record → List ℕ

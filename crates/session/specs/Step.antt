@@ -7,13 +7,13 @@ use Rattle.volume_tree.specs.Volume.{Volume, formatted}
 use Rattle.volume_tree.specs.Stored.{encode_volume, decode_volume}
 use Rattle.log_rules.specs.Slot.{Log, empty_log}
 use Rattle.log_rules.specs.Stored.{encode_log, decode_log}
-use Rattle.session.specs.Class.{push, fsync, cut, send_due, take, renew}
-use Rattle.session.specs.Call.{Geometry, Buffers, Call, question, change, link, recovery, load_rows, Answer, answer, refusal, in_range, server_fits, lengths_fit, argument_fits}
+use Rattle.session.specs.Class.{push, fsync, cut, take, renew}
+use Rattle.session.specs.Call.{Geometry, Buffers, Call, question, change, link, recovery, Answer, answer, refusal, in_range, server_fits, lengths_fit}
 use Rattle.session.specs.Model.{Model, agreeing, told_of}
 use Rattle.session.specs.Effect.{Effect, perform_all, effects_of}
 use Rattle.session.specs.Question.{asked, question_answer}
 use Rattle.session.specs.Edit.{changed, change_rows}
-use Rattle.session.specs.Send.{push_of, fsync_of, send_due_of, load_rows_of, take_of, renew_of}
+use Rattle.session.specs.Send.{push_of, fsync_of, take_of, renew_of}
 
 -- what a call answers
 unfoldable pub answer_of : Geometry → Call → Model → Answer
@@ -22,10 +22,8 @@ answer_of g (change i c) x = changed g (change i c) i.program (change_rows g x.v
 answer_of g (link (push q)) x = push_of q x
 answer_of g (link (fsync p o k)) x = fsync_of p o k x
 answer_of g (link cut) x = answer Returned.accepted [] []
-answer_of g (link (send_due c)) x = send_due_of c x
 answer_of g (recovery p (take s)) x = take_of p s x
 answer_of g (recovery p renew) x = renew_of p x
-answer_of g (load_rows s) x = load_rows_of s
 
 -- what a call does to the volumes and the log, and what these then are
 abbrev pub effects_in : Geometry → Call → Model → List Effect
@@ -82,7 +80,7 @@ on_model g c s (some x) = record { gives = answer_of g c x; leaves = encode_mode
 
 -- "1 Wrong buffer", then "2 Damaged: stored form broken", then the call: "Every other entry is lent all three and checks their form."
 unfoldable pub step : Geometry → Call → Buffers → Result
-step g c s = cond (in_range g && (lengths_fit g s && argument_fits c)) (on_model g c s (decode_model g s)) (turned_down Returned.wrong_buffer c s)
+step g c s = cond (in_range g && lengths_fit g s) (on_model g c s (decode_model g s)) (turned_down Returned.wrong_buffer c s)
 
 -- "Format looks only at the server volume's length"
 unfoldable pub format : Geometry → List ℕ → ℕ

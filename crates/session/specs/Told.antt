@@ -3,12 +3,7 @@
 use Rattle.std.specs.Prelude.{List}
 use Rattle.record.specs.Operation.{Record}
 use Rattle.volume_tree.specs.Volume.{Volume}
-use Rattle.log_rules.specs.Standing.{Standing}
-use Rattle.log_rules.specs.Change.{Waiting}
 
 pub record Told : Type 0 where
   pub view : Volume
   pub waiting : List Record
-  -- what waits with its due time, and the latest time with the rows (document 02, K5)
-  pub due : List Waiting
-  pub standing : Standing

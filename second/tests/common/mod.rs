@@ -4,7 +4,6 @@
 use second::geometry::{Geometry, BLOCK, ENTRY_HEAD, LOG_HEAD, SLOT};
 use second::log::{Log, Slot, State};
 use second::record::{Kind, Record};
-use second::waits::LAST_TIME;
 use second::{Lent, Refusal, Stat};
 
 /// The accepted result, or the number of the refusal.
@@ -18,8 +17,6 @@ pub struct World {
     pub server: Vec<u8>,
     pub view: Vec<u8>,
     pub log: Vec<u8>,
-    /// The clock that the changes, forder and the sending of what is due bring.
-    pub clock: u32,
 }
 
 /// The bytes of an entry with b blocks.
@@ -41,15 +38,14 @@ impl World {
     pub fn new(n: u64, b: u64, m: u64) -> World {
         let volume = n as usize * entry_length(b);
         let log = log_length(m);
-        let (server, view, log) = (vec![9; volume], vec![9; volume], vec![9; log]);
-        let mut world = World { n, b, m, server, view, log, clock: 0 };
+        let mut world = World { n, b, m, server: vec![9; volume], view: vec![9; volume], log: vec![9; log] };
         assert_eq!(world.format(), Ok(0));
         assert_eq!(world.mount(), Ok(0));
         world
     }
 
     pub fn lent(&mut self) -> Lent<'_> {
-        let World { n, b, m, server, view, log, .. } = self;
+        let World { n, b, m, server, view, log } = self;
         Lent { n: *n, b: *b, m: *m, server, view, log }
     }
 
@@ -82,44 +78,36 @@ impl World {
     }
 
     pub fn create(&mut self, program: u64, parent: u64, name: &[u8], object: u64) -> Answer {
-        let clock = self.clock;
-        numbered(second::create(&mut self.lent(), program, parent, name, object, clock))
+        numbered(second::create(&mut self.lent(), program, parent, name, object))
     }
 
     pub fn mkdir(&mut self, program: u64, parent: u64, name: &[u8], object: u64) -> Answer {
-        let clock = self.clock;
-        numbered(second::make_directory(&mut self.lent(), program, parent, name, object, clock))
+        numbered(second::make_directory(&mut self.lent(), program, parent, name, object))
     }
 
     pub fn rmfile(&mut self, program: u64, parent: u64, name: &[u8]) -> Answer {
-        let clock = self.clock;
-        numbered(second::remove_file(&mut self.lent(), program, parent, name, clock))
+        numbered(second::remove_file(&mut self.lent(), program, parent, name))
     }
 
     pub fn rmdir(&mut self, program: u64, parent: u64, name: &[u8]) -> Answer {
-        let clock = self.clock;
-        numbered(second::remove_directory(&mut self.lent(), program, parent, name, clock))
+        numbered(second::remove_directory(&mut self.lent(), program, parent, name))
     }
 
     pub fn rename(&mut self, program: u64, parent: u64, name: &[u8], to: u64, second_name: &[u8]) -> Answer {
-        let clock = self.clock;
-        numbered(second::rename(&mut self.lent(), program, (parent, name), (to, second_name), clock))
+        numbered(second::rename(&mut self.lent(), program, (parent, name), (to, second_name)))
     }
 
     pub fn write(&mut self, program: u64, object: u64, offset: u64, data: &[u8]) -> Answer {
-        let clock = self.clock;
-        numbered(second::write(&mut self.lent(), program, object, offset, data, clock))
+        numbered(second::write(&mut self.lent(), program, object, offset, data))
     }
 
     pub fn setlen(&mut self, program: u64, object: u64, length: u64) -> Answer {
-        let clock = self.clock;
-        numbered(second::set_length(&mut self.lent(), program, object, length, clock))
+        numbered(second::set_length(&mut self.lent(), program, object, length))
     }
 
     /// Forder with its list as lent bytes.
     pub fn forder_bytes(&mut self, program: u64, list: &[u8]) -> Answer {
-        let clock = self.clock;
-        numbered(second::forder(&mut self.lent(), program, list, clock))
+        numbered(second::forder(&mut self.lent(), program, list))
     }
 
     pub fn forder(&mut self, program: u64, list: &[u16]) -> Answer {
@@ -135,26 +123,6 @@ impl World {
     pub fn fsync(&mut self, program: u64, object: u64, k: u64) -> (u64, u64) {
         let answer = second::fsync(&mut self.lent(), program, object, k);
         (answer.refusal.map_or(0, Refusal::number), answer.sends)
-    }
-
-    /// Loads rows, given as lent bytes.
-    pub fn rows_bytes(&mut self, rows: &[u8]) -> Answer {
-        numbered(second::load_rows(&mut self.lent(), rows).map(|()| 0))
-    }
-
-    pub fn rows(&mut self, rows: &[[u32; 3]]) -> Answer {
-        self.rows_bytes(&row_bytes(rows))
-    }
-
-    /// Sends what is due by the clock; gives the returned number and the sends.
-    pub fn due(&mut self) -> (u64, u64) {
-        let clock = self.clock;
-        let answer = second::send_due(&mut self.lent(), clock);
-        (answer.refusal.map_or(0, Refusal::number), answer.sends)
-    }
-
-    pub fn due_times(&self) -> Vec<u32> {
-        self.log_now().slots.iter().map(|slot| slot.due).collect()
     }
 
     pub fn cut(&mut self) -> Answer {
@@ -207,19 +175,12 @@ impl World {
     }
 }
 
-/// Rows as they are lent: shortest, longest and seconds of each.
-pub fn row_bytes(rows: &[[u32; 3]]) -> Vec<u8> {
-    rows.iter().flatten().flat_map(|number| number.to_le_bytes()).collect()
-}
-
-/// A waiting operation that was issued while no rows were loaded.
 pub fn waiting(record: Record) -> Slot {
-    Slot { state: State::Waiting, dependents: 1 << record.program, record, due: LAST_TIME }
+    Slot { state: State::Waiting, dependents: 1 << record.program, record }
 }
 
-/// A lost operation that was issued while no rows were loaded.
 pub fn lost(record: Record) -> Slot {
-    Slot { state: State::Lost, dependents: 0, record, due: LAST_TIME }
+    Slot { state: State::Lost, dependents: 0, record }
 }
 
 pub fn forder_record(sequence: u32, program: u8, list: &[u16]) -> Record {

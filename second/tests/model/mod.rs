@@ -1,4 +1,4 @@
-//! The register of document 01 ("The register"), with the rows and times of document 02, K5, kept apart from the library but for the numbers of the layout: a tree
+//! The register of document 01 ("The register"), kept apart from the library but for the numbers of the layout: a tree
 //! of nodes, operations with their fate, and the whole history of calls, from which everything in the log is reckoned
 //! anew.
 
@@ -58,11 +58,6 @@ impl Tree {
         let places: Vec<(u16, Vec<u8>)> =
             places.map(|(_, node)| (node.parent, node.name.to_ascii_lowercase())).collect();
         places.iter().collect::<BTreeSet<_>>().len() == places.len()
-    }
-
-    /// The length of the file that an object is; 0 where it is none.
-    fn file_length(&self, object: u16) -> usize {
-        self.0.get(&object).filter(|node| !node.directory).map_or(0, |node| node.data.len())
     }
 
     pub fn childless(&self, object: u16) -> bool {
@@ -160,7 +155,6 @@ pub struct Operation {
     /// The place in the history of the call that issued it.
     pub issued: usize,
     pub fate: Fate,
-    pub due: u32,
 }
 
 impl Operation {
@@ -195,15 +189,6 @@ impl Operation {
             return self.touches(later) && common;
         }
         self.touches(later)
-    }
-
-    fn object(&self) -> Option<u16> {
-        match self.what {
-            What::Make { object, .. } | What::Remove { object, .. } | What::Rename { object, .. } => Some(object),
-            What::Overwrite { object, .. } | What::Append { object, .. } => Some(object),
-            What::SetLength { object, .. } => Some(object),
-            What::Forder { .. } => None,
-        }
     }
 
     /// The record of the operation, written field by field.
@@ -251,14 +236,11 @@ pub struct Register {
     pub mounted: Tree,
     pub operations: Vec<Operation>,
     pub history: Vec<Event>,
-    /// The latest time, and the rows loaded: shortest, longest, seconds.
-    pub latest: u32,
-    pub rows: Vec<[u32; 3]>,
 }
 
 impl Register {
     pub fn new(mounted: Tree) -> Register {
-        Register { mounted, operations: Vec::new(), history: Vec::new(), latest: 0, rows: Vec::new() }
+        Register { mounted, operations: Vec::new(), history: Vec::new() }
     }
 
     /// The replay in issue order of a set of operations, and whether all of them applied.
@@ -298,41 +280,13 @@ impl Register {
         found
     }
 
-    /// Sees a clock; a time before the latest counts as the latest.
-    pub fn see(&mut self, clock: u32) {
-        if clock > self.latest {
-            self.latest = clock;
-        }
-    }
-
-    /// The latest time and the seconds for a length, at most 4,294,967,295, which it is without rows.
-    fn due_time(&self, length: usize) -> u32 {
-        let holds = |row: &&[u32; 3]| (row[0]..=row[1]).contains(&(length as u32));
-        let due = self.rows.iter().find(holds).map(|row| self.latest as u64 + row[2] as u64);
-        due.unwrap_or(u64::MAX).min(4_294_967_295) as u32
-    }
-
-    /// The waiting operations that are due, with their waiting predecessors.
-    pub fn due(&self) -> BTreeSet<u32> {
-        let waiting = self.waiting();
-        let ripe = waiting.iter().copied().filter(|number| self.operation(*number).due <= self.latest);
-        let mut due: BTreeSet<u32> = ripe.collect();
-        due.extend(due.clone().iter().flat_map(|number| self.predecessors(*number)));
-        due.retain(|number| waiting.contains(number));
-        due
-    }
-
-    /// Adds the operations of one accepted call, in their order; each has the length that it leaves.
-    pub fn add(&mut self, program: u8, clock: u32, parts: Vec<What>) {
+    /// Adds the operations of one accepted call, in their order.
+    pub fn add(&mut self, program: u8, parts: Vec<What>) {
         let issued = self.history.len();
         let mut operands = BTreeSet::new();
-        self.see(clock);
         for what in parts {
             let number = self.operations.len() as u32 + 1;
-            let mut view = self.view();
-            view.apply(&what);
-            let mut operation = Operation { number, program, what, issued, fate: Fate::Waiting, due: 0 };
-            operation.due = self.due_time(operation.object().map_or(0, |object| view.file_length(object)));
+            let operation = Operation { number, program, what, issued, fate: Fate::Waiting };
             operands.extend(operation.operands());
             self.operations.push(operation);
         }
@@ -407,10 +361,6 @@ impl Register {
     pub fn log_bytes(&self, m: u64) -> Vec<u8> {
         let mut bytes = (self.operations.len() as u32 + 1).to_le_bytes().to_vec();
         bytes.extend(self.marks().to_le_bytes());
-        bytes.extend(self.latest.to_le_bytes());
-        bytes.extend((self.rows.len() as u32).to_le_bytes());
-        bytes.extend(self.rows.iter().flatten().flat_map(|number| number.to_le_bytes()));
-        bytes.resize(LOG_HEAD, 0);
         for operation in &self.operations {
             let (state, dependents) = match operation.fate {
                 Fate::Lost { taken: false, .. } => (2, 0),
@@ -420,8 +370,7 @@ impl Register {
             let mut slot = vec![state, 0, 0, 0];
             slot.extend(u32::to_le_bytes(dependents));
             slot.extend(operation.record());
-            slot.resize(SLOT - 4, 0);
-            slot.extend(operation.due.to_le_bytes());
+            slot.resize(SLOT, 0);
             bytes.extend(slot);
         }
         bytes.resize(LOG_HEAD + SLOT * m as usize, 0);

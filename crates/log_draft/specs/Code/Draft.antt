@@ -28,15 +28,15 @@ draft_at next used by =
 abbrev pub draft_of : Log → Issuer → Draft
 draft_of l by = draft_at l.head.next (length l.slots) by
 
--- its parts lie in a log: the used slots before it, the slot's state and dependents, the room for a record, and the due time behind it
+-- its parts lie in a log: the used slots before it, the slot's state and dependents, and the room for a record
 pub record Within (d : Draft) (s : List ℕ) : Type 0 where
   pub used : head_bytes ≤ d.at
   pub slot : d.at + record_start ≤ length s
   pub part : d.start ≤ d.end
-  pub whole : d.end + 4 ≤ length s
+  pub whole : d.end ≤ length s
   pub wide : d.end - d.start ≡ record_bytes
 
--- the next record of a well-formed log with a free slot stands in it, where a draft says, by its issuer, whose clock has 4 bytes
+-- the next record of a well-formed log with a free slot stands in it, where a draft says, by its issuer
 pub record Placed (n b m : ℕ) (d : Draft) (s : List ℕ) (l : Log) (r : Record) : Type 0 where
   pub objects : n ≤ 256
   pub blocks : b ≤ 64
@@ -50,4 +50,3 @@ pub record Placed (n b m : ℕ) (d : Draft) (s : List ℕ) (l : Log) (r : Record
   pub held : s ≡ drafted m l r
   pub place : d ≡ draft_of l d.by
   pub issuer : r.program ≡ d.by.program
-  pub clock : d.by.clock < 4294967296

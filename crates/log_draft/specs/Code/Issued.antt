@@ -7,7 +7,6 @@ use Rattle.volume_tree.specs.Stored.{encode_volume}
 use Rattle.volume_apply.specs.Apply.{applies, apply}
 use Rattle.log_rules.specs.Slot.{Log}
 use Rattle.log_rules.specs.Stored.{encode_log, read_log}
-use Rattle.log_rules.specs.Due.{file_length}
 use Rattle.log_rules.specs.Change.{note, issue}
 use Rattle.log_draft.specs.declared.Draft.{Draft}
 use Rattle.log_draft.specs.Code.Draft.{Placed}
@@ -24,34 +23,24 @@ pub record Begins (s : List ℕ) (r : Record) : Type 0 where
   pub rest : List ℕ
   pub bytes : s ≡ encode r ++ rest
 
--- "Each accepted change, and forder, .. takes one sequence number and waits", and brings its dependence: by a clock, of an operation whose
--- file then has so many bytes
-abbrev pub waiting_log : ℕ → ℕ → Record → Log → Log
-waiting_log clock k r l = issue r.program clock k r.operation (note r.program (operands r.operation) l)
-
--- the same of an operation that left a volume
-abbrev pub issued_log : ℕ → Volume → Record → Log → Log
-issued_log clock w r l = waiting_log clock (file_length w r.operation) r l
+-- "Each accepted change, and forder, .. takes one sequence number and waits", and brings its dependence
+abbrev pub issued_log : Record → Log → Log
+issued_log r l = issue r.program r.operation (note r.program (operands r.operation) l)
 
 -- a record stands in the first free slot, and its operation may be issued
 pub record Ready (n b m : ℕ) (d : Draft) (s : List ℕ) (v : Volume) (l : Log) (r : Record) : Type 0 where
   pub placed : Placed n b m d s l r
   pub able : Issuable n b v r
 
--- the view after an operation is applied to it, and how long the operation's file is then
-pub record Applied (b long : ℕ) (view' : List ℕ) (v : Volume) (o : Operation) : Type 0 where
-  pub view : view' ≡ encode_volume b (apply v o)
-  pub length : long ≡ file_length (apply v o) o
-
--- the sequence number and the log afterwards, in which the operation waits, by a clock and for so many bytes of its file
-pub record Waits (m number : ℕ) (log' : List ℕ) (clock k : ℕ) (l : Log) (r : Record) : Type 0 where
+-- the sequence number and the log afterwards, in which the operation waits
+pub record Waits (m number : ℕ) (log' : List ℕ) (l : Log) (r : Record) : Type 0 where
   pub gives : number ≡ l.head.next
-  pub log : log' ≡ encode_log m (waiting_log clock k r l)
+  pub log : log' ≡ encode_log m (issued_log r l)
 
--- the same by a clock and for the view afterwards, and this view
-pub record Issued (n b m : ℕ) (number : ℕ) (log' view' : List ℕ) (clock : ℕ) (v : Volume) (l : Log) (r : Record) : Type 0 where
+-- the same, and the view afterwards
+pub record Issued (n b m : ℕ) (number : ℕ) (log' view' : List ℕ) (v : Volume) (l : Log) (r : Record) : Type 0 where
   pub gives : number ≡ l.head.next
-  pub log : log' ≡ encode_log m (issued_log clock (apply v r.operation) r l)
+  pub log : log' ≡ encode_log m (issued_log r l)
   pub view : view' ≡ encode_volume b (apply v r.operation)
 
 -- a record that a log can keep: it is valid, and fits
@@ -63,17 +52,17 @@ pub record Kept (n b : ℕ) (r : Record) : Type 0 where
 abbrev pub Room : ℕ → List ℕ → Type 0
 Room m s = (used_in m s < m) × ((read_log m s).head.next < 4294967295)
 
--- operations of a program one after the other, by a clock and on a volume: what they leave of a log, and of the volume
-unfoldable pub issued_all : ℕ → ℕ → List Operation → Volume → Log → Log
-issued_all p clock [] v l = l
-issued_all p clock (o ∷ os) v l = issued_all p clock os (apply v o) (issued_log clock (apply v o) (record_of l.head.next p o) l)
+-- operations of a program one after the other: what they leave of a log and of a volume
+unfoldable pub issued_all : ℕ → List Operation → Log → Log
+issued_all p [] l = l
+issued_all p (o ∷ os) l = issued_all p os (issued_log (record_of l.head.next p o) l)
 
 unfoldable pub applied_all : List Operation → Volume → Volume
 applied_all [] v = v
 applied_all (o ∷ os) v = applied_all os (apply v o)
 
 -- the sequence number of the first, and the log and the view afterwards
-pub record AllIssued (b m number : ℕ) (log' view' : List ℕ) (v : Volume) (l : Log) (p clock : ℕ) (os : List Operation) : Type 0 where
+pub record AllIssued (b m number : ℕ) (log' view' : List ℕ) (v : Volume) (l : Log) (p : ℕ) (os : List Operation) : Type 0 where
   pub gives : number ≡ l.head.next
-  pub log : log' ≡ encode_log m (issued_all p clock os v l)
+  pub log : log' ≡ encode_log m (issued_all p os l)
   pub view : view' ≡ encode_volume b (applied_all os v)

@@ -1,15 +1,13 @@
 -- Document 01, "Geometry and stored form": the form of a log as the tests that are run on its bytes, one after the other;
 -- `Laws/Checks` ties them to the logs that are well formed.
-use Rattle.std.specs.Prelude.{ℕ, zero, suc, ◌+◌, ◌*◌, ◌-◌, List, Bool, true, false, not, ◌&&◌, ◌||◌, cond, get_or, take, drop, leb, ltb, eqb}
+use Rattle.std.specs.Prelude.{ℕ, zero, suc, List, Bool, true, false, not, ◌&&◌, ◌||◌, cond, get_or, take, drop, leb, ltb, eqb}
 use Rattle.buffer.specs.Numeral.{numeral}
 use Rattle.buffer.specs.Code.Zero.{zeros}
 use Rattle.record_reader.specs.declared.Reading.{Reading}
 use Rattle.record_reader.specs.declared.Reading.TheVariants.{Is as RecordIs, Bad as NoRecord}
 use Rattle.record_reader.specs.Code.Reader.{record_at}
 use Rattle.record_reader.specs.Code.Fit.{fits_whole}
-use Rattle.rows.specs.Stored.{row_bytes, most_rows}
-use Rattle.log_rules.specs.Standing.{good_rows}
-use Rattle.log_rules.specs.Stored.{row_count_at, rows_at, head_bytes, slot_bytes, dependents_at, record_part, read_head}
+use Rattle.log_rules.specs.Stored.{head_bytes, slot_bytes, dependents_at, record_part, read_head}
 use Rattle.log_form.specs.declared.slot.SlotForm.{SlotForm}
 use Rattle.log_form.specs.declared.slot.SlotForm.TheVariants.{Is, Bad}
 
@@ -45,19 +43,6 @@ slots_formed n b next (suc m) last waits s =
     cond (eqb (get_or s 0 0) 0) (zeros s)
     (if_form (slot_form n b (take slot_bytes s)) (λ q w. may_follow next last waits q w && slots_formed n b next m q w (drop slot_bytes s)))
 
--- "the row count" as it is stored, and where so many rows end
-abbrev pub count_in : List ℕ → ℕ
-count_in s = numeral (take 4 (drop row_count_at s))
-
-abbrev pub rows_end : ℕ → ℕ
-rows_end k = rows_at + k * row_bytes
-
--- "next sequence number (4, from 1)"; at most 16 rows, "unused rows zero", and rows as they should be
-unfoldable pub head_formed : List ℕ → Bool
-head_formed s =
-    leb 1 (read_head s).next
-    && (leb (count_in s) most_rows && (zeros (take (head_bytes - rows_end (count_in s)) (drop (rows_end (count_in s)) s)) && good_rows (read_head s).standing.rows))
-
--- the head, "then m slots"
+-- "next sequence number (4, from 1), marked programs (4 ..), then m slots"
 unfoldable pub log_formed : ℕ → ℕ → ℕ → List ℕ → Bool
-log_formed n b m s = head_formed s && slots_formed n b (read_head s).next m 0 false (drop head_bytes s)
+log_formed n b m s = leb 1 (read_head s).next && slots_formed n b (read_head s).next m 0 false (drop head_bytes s)

@@ -1,6 +1,6 @@
 -- The tests of a log's bytes pass for the bytes of the well-formed logs, and for no others. Assumes nothing.
-use Rattle.std.specs.Prelude.{ℕ, zero, suc, ◌+◌, ◌*◌, ◌-◌, ◌≤◌, ◌≡◌, refl, Bool, true, false, ◌&&◌, List, [], ◌∷◌, ◌++◌, length, get_or, take, drop, replicate, eqb}
-use Rattle.std.proofs.Common.{arith, sym, ap, ap₂, ◌∙◌, append_assoc, length-append, length-drop, take-append-drop, length-take-le, take_at, drop_at, get_or-take, eqb-true}
+use Rattle.std.specs.Prelude.{ℕ, zero, suc, ◌+◌, ◌*◌, ◌-◌, ◌≤◌, ◌≡◌, refl, Bool, true, false, ◌&&◌, List, [], ◌∷◌, ◌++◌, length, get_or, take, drop, replicate, leb, eqb}
+use Rattle.std.proofs.Common.{arith, sym, ap, ap₂, ◌∙◌, append_assoc, length-append, length-drop, take-append-drop, length-take-le, take_at, drop_at, get_or-take, get_or-drop, leb-true, le-leb, eqb-true}
 use Rattle.std.proofs.Math.Bool.{and-eq-true_iff}
 use Rattle.std.proofs.lemmas.Bool.{false≢true, eqb-false}
 use Rattle.std.proofs.Math.Option.{Option, none, some}
@@ -13,13 +13,13 @@ use Rattle.buffer.specs.Laws.Zero.{zeros-replicate, replicate-zeros}
 use Rattle.volume_entry.specs.Stored.{padded}
 use Rattle.log_rules.specs.Slot.{State, waiting, lost, state_number, Slot, Log, is_waiting, sequence_of, good_slots, well_formed_log}
 use Rattle.log_rules.specs.Stored.{head_bytes, slot_bytes, log_bytes, encode_slot, encode_slots, encode_log, read_head, read_log, decode_log}
-use Rattle.log_rules.specs.Laws.Slot.{and_both, GoodHead, slots-inv, slots-of, formed-inv, formed-of}
+use Rattle.log_rules.specs.Laws.Slot.{and_both, slots-inv, slots-of, formed-inv, formed-of}
 use Rattle.log_rules.specs.Laws.Head.{behind-head}
 use Rattle.log_rules.specs.Laws.Stored.{length-slot, read-log, decode-encode, encode-decode}
 use Rattle.log_form.specs.declared.slot.SlotForm.{SlotForm}
 use Rattle.log_form.specs.declared.slot.SlotForm.TheVariants.{Is, Bad}
-use Rattle.log_form.specs.Code.Checks.{slot_form, may_follow, slots_formed, head_formed, log_formed}
-use Rattle.log_form.specs.Laws.Head.{bytes-behind, head-back, head-good, head-passes}
+use Rattle.log_form.specs.Code.Checks.{slot_form, may_follow, slots_formed, log_formed}
+use Rattle.log_form.specs.Laws.Head.{head-back, head-good}
 use Rattle.log_form.specs.Laws.Slot.{Used, form-used, slot-first, used-form}
 use Rattle.log_form.specs.Laws.Order.{follows-inv, follows_of, behind, behind-inv, behind-of, behind-rising, rising-all}
 use Rattle.log_form.specs.Laws.Loop.{none_left, from-free, from-bad, from-used}
@@ -59,6 +59,10 @@ none-held n b next m last waits s size z =
       order = refl;
       stored = ap (λ (k : ℕ). replicate k 0) k ∙ sym (zeros-replicate s z);
     }
+
+-- The bytes from a place on are bytes.
+bytes-behind : (s : List ℕ) (at : ℕ) → Bytes s → Bytes (drop at s)
+bytes-behind s at byte i = rw (get_or-drop at s i 0) (byte (at + i))
 
 module _ (n b next m last : ℕ) (waits : Bool) (s : List ℕ) (size : length s ≡ suc m * slot_bytes) (byte : Bytes s)
     (others : (q : ℕ) (w : Bool) → slots_formed n b next m q w (drop slot_bytes s) ≡ true → Held n b next m q w (drop slot_bytes s)) where
@@ -146,24 +150,19 @@ checks-sound : (n b m : ℕ) (s : List ℕ) → length s ≡ log_bytes m → Byt
 unfolding log_formed encode_log
 checks-sound n b m s size byte h =
     let next = (read_head s).next in
-    let x = (and-eq-true_iff (head_formed s) (slots_formed n b next m 0 false (drop head_bytes s))).0 h in
+    let x = (and-eq-true_iff (leb 1 next) (slots_formed n b next m 0 false (drop head_bytes s))).0 h in
     let r = slots-held n b next m 0 false (drop head_bytes s) (length-drop head_bytes s ∙ omega arith) (bytes-behind s head_bytes byte) x.1 in
     let l : Log = record { head = read_head s; slots = r.slots } in
     let form : well_formed_log n b m l ≡ true =
     formed-of n b m l
-    (record { head = head-good s (omega arith) byte x.0; count = r.count; good = r.good; order = behind-rising next 0 false r.slots r.order }) in
-    let stored : encode_log m l ≡ s = ap₂ (λ (x y : List ℕ). x ++ y) (head-back s (omega arith) byte x.0) r.stored ∙ take-append-drop head_bytes s in
+    (record { head = head-good s (omega arith) byte (leb-true 1 next x.0); count = r.count; good = r.good; order = behind-rising next 0 false r.slots r.order }) in
+    let stored : encode_log m l ≡ s = ap₂ (λ (x y : List ℕ). x ++ y) (head-back s (omega arith) byte) r.stored ∙ take-append-drop head_bytes s in
     ap is_some (ap (decode_log n b m) (sym stored) ∙ decode-encode n b m l form)
 
 -- The slots' bytes of a log that is stored.
 slots-part : (m : ℕ) (l : Log) → drop head_bytes (encode_log m l) ≡ padded (m * slot_bytes) (encode_slots l.slots)
 unfolding encode_log
 slots-part m l = behind-head l.head _
-
--- Its head's bytes.
-head-part : (m : ℕ) (l : Log) → GoodHead l.head → head_formed (encode_log m l) ≡ true
-unfolding encode_log
-head-part m l g = head-passes l.head _ g
 
 -- The next number of a log that is stored.
 next-part : (n b m : ℕ) (l : Log) → well_formed_log n b m l ≡ true → (read_head (encode_log m l)).next ≡ l.head.next
@@ -177,7 +176,7 @@ log-checks n b m l h byte =
     let f = formed-inv n b m l h in
     let s = encode_log m l in
     let order = rising-all n b l.head.next l.slots f.good f.order in
-    rw (head-part m l f.head, next-part n b m l h)
+    rw (next-part n b m l h, le-leb 1 l.head.next f.head.from_one)
     (held-slots n b l.head.next m 0 false l.slots f.count f.good order (drop head_bytes s) (sym (slots-part m l)) (bytes-behind s head_bytes byte))
 
 -- Bytes taken for a log pass the tests.

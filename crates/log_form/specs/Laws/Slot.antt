@@ -25,7 +25,7 @@ use Rattle.record_reader.specs.Laws.Exact.{decode-encode}
 use Rattle.record_reader.specs.Laws.Fit.{fits_read}
 use Rattle.volume_entry.specs.Stored.{padded}
 use Rattle.log_rules.specs.Slot.{State, waiting, lost, state_number, Slot, with_state, is_waiting, sequence_of}
-use Rattle.log_rules.specs.Stored.{slot_bytes, dependents_at, record_start, record_bytes, record_end, encode_front, encode_slot, record_part}
+use Rattle.log_rules.specs.Stored.{slot_bytes, dependents_at, record_start, record_bytes, encode_front, encode_slot, record_part}
 use Rattle.log_rules.specs.Laws.Stored.{record-held}
 use Rattle.log_rules.specs.Laws.Slot.{GoodSlot}
 use Rattle.log_form.specs.declared.slot.SlotForm.TheVariants.{Is, Bad}
@@ -34,10 +34,6 @@ use Rattle.log_form.specs.Code.Checks.{front_formed, form_by, slot_form}
 -- the dependents that a slot's bytes tell of
 abbrev dependents_in : List ℕ → ℕ
 dependents_in s = numeral (take 4 (drop dependents_at s))
-
--- and the due time
-abbrev due_in : List ℕ → ℕ
-due_in s = numeral (take 4 (drop record_end s))
 
 -- what is asked of the bytes before the record, part by part
 record Front (s : List ℕ) : Type 0 where
@@ -76,10 +72,9 @@ module _ (s : List ℕ) (at : ℕ) (room : at + 4 ≤ length s) (byte : Bytes s)
 
 -- A slot has these bytes if its fields are in them.
 slot-back : (e : List ℕ) → length e ≡ slot_bytes → Bytes e → (t : Slot) → state_number t.state ≡ get_or e 0 0
-    → zeros (take 3 (drop 1 e)) ≡ true → t.dependents ≡ dependents_in e → padded record_bytes (encode t.recorded) ≡ record_part e → t.due ≡ due_in e
-    → encode_slot t ≡ e
+    → zeros (take 3 (drop 1 e)) ≡ true → t.dependents ≡ dependents_in e → padded record_bytes (encode t.recorded) ≡ record_part e → encode_slot t ≡ e
 unfolding encode_slot
-slot-back e size byte t state blank dep rest due =
+slot-back e size byte t state blank dep rest =
     let a : bytes 1 (state_number t.state) ≡ take 1 e = first_byte t.state ∙ ap (λ (v : ℕ). v ∷ []) state ∙ sym (take-suc e 0 0 (omega arith)) in
     let l₁ = length-drop 1 e in
     let n₃ : length (take 3 (drop 1 e)) ≡ 3 = length-take-le 3 (drop 1 e) (omega arith) in
@@ -87,11 +82,8 @@ slot-back e size byte t state blank dep rest due =
     let p₄ : bytes 4 t.dependents ≡ take 4 (drop dependents_at e) = ap (bytes 4) dep ∙ number-back 4 dependents_at e (omega arith) byte in
     let inner : take 7 (drop 1 e) ≡ take 3 (drop 1 e) ++ take 4 (drop dependents_at e) = take-add 3 4 (drop 1 e) ∙ ap (λ (x : List ℕ). take 3 (drop 1 e) ++ take 4 x) (drop-drop 3 1 e) in
     let front : encode_front t ≡ take record_start e = (λ i. a i ++ (p₃ i ++ p₄ i)) ∙ sym (take-add 1 7 e ∙ ap (λ (x : List ℕ). take 1 e ++ x) inner) in
-    let last : bytes 4 t.due ≡ drop record_end e =
-    ap (bytes 4) due ∙ number-back 4 record_end e (omega arith) byte ∙ take_all 4 (drop record_end e) (omega (arith, length-drop record_end e)) in
-    let behind : record_part e ++ drop record_end e ≡ drop record_start e =
-    ap (λ (x : List ℕ). record_part e ++ x) (sym (drop-drop record_bytes record_start e)) ∙ take-append-drop record_bytes (drop record_start e) in
-    (λ i. front i ++ (rest i ++ last i)) ∙ ap (λ (x : List ℕ). take record_start e ++ x) behind ∙ take-append-drop record_start e
+    let part : record_part e ≡ drop record_start e = take_all record_bytes (drop record_start e) (omega (arith, length-drop record_start e)) in
+    (λ i. front i ++ (rest ∙ part) i) ∙ take-append-drop record_start e
 
 -- The place after a record that the reader answers lies in the bytes.
 pub answered-within : (s : List ℕ) → Bytes s → (at : ℕ) (w : Whole) → at ≤ length s → record_at s at ≡ RecordIs w → w.next.at ≤ length s
@@ -130,7 +122,7 @@ module _ (n b : ℕ) (e : List ℕ) (size : length e ≡ slot_bytes) (byte : Byt
       let g = record-sound part part_bytes 0 w read in
       let r = g.found in
       let d = dependents_in e in
-      let slot : Slot = record { state = f.state; dependents = d; recorded = r; due = due_in e } in
+      let slot : Slot = record { state = f.state; dependents = d; recorded = r } in
       let long : length part ≡ record_bytes = length-take-le record_bytes (drop record_start e) (omega (arith, length-drop record_start e)) in
       let l : length (drop w.next.at part) ≡ record_bytes - length (encode r) = length-drop w.next.at part ∙ omega (arith, g.spans.after, long) in
       let rest : padded record_bytes (encode r) ≡ part =
@@ -143,9 +135,8 @@ module _ (n b : ℕ) (e : List ℕ) (size : length e ≡ slot_bytes) (byte : Byt
               fit = found-fits n b part part_bytes 0 w r (drop w.next.at part) read g.good g.spans.begins ∙ fit;
               small = four_below e dependents_at (omega arith) byte;
               none-if-lost = f.none-if-lost;
-              due-small = four_below e record_end (omega arith) byte;
             };
-        stored = slot-back e size byte slot f.told f.blank refl rest refl;
+        stored = slot-back e size byte slot f.told f.blank refl rest;
         numbered = ap (λ (y : Whole). y.head.sequence) g.answered;
         state = ap (λ (v : ℕ). eqb v 1) f.told;
       }

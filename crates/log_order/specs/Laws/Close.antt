@@ -61,14 +61,14 @@ precedes-touches : (a b : Operation) → directly_precedes a b ≡ true → touc
 unfolding directly_precedes
 precedes-touches a b h = ((and-eq-true_iff (touches a b) (not (separate (overwrite_of a) (overwrite_of b)))).0 h).0
 
--- an operation that is earlier than all found so far: whether these and the given objects draw it in
+-- an operation that is earlier than all found so far
 module _ (ops : List ℕ) (a : Record) (c : List Record) (later : (q : Record) → Memᴰ q c → a.sequence < q.sequence) where
-  abbrev pub drawn : Bool
-  drawn = shares (operands a.operation) ops || any (before a) c
+  abbrev pub due : Bool
+  due = shares (operands a.operation) ops || any (before a) c
 
   -- shares one of the objects found if it is found by them
-  pub drawn-touches : drawn ≡ true → shares (operands a.operation) (objects_found ops c) ≡ true
-  drawn-touches h =
+  pub due-touches : due ≡ true → shares (operands a.operation) (objects_found ops c) ≡ true
+  due-touches h =
       let k = operands a.operation in
       objects-test k ops c ∙ ⊎_elim (λ (g : shares k ops ≡ true). or_left (shares k ops) _ g)
       (λ (g : any (before a) c ≡ true). let w = any-in (before a) c g in
@@ -76,8 +76,8 @@ module _ (ops : List ℕ) (a : Record) (c : List Record) (later : (q : Record) �
       (or_cases (shares k ops) (any (before a) c) h)
 
   -- is found if it shares one and is no overwrite
-  pub plain-drawn : is_overwrite a.operation ≡ false → shares (operands a.operation) (objects_found ops c) ≡ true → drawn ≡ true
-  plain-drawn e h =
+  pub plain-due : is_overwrite a.operation ≡ false → shares (operands a.operation) (objects_found ops c) ≡ true → due ≡ true
+  plain-due e h =
       let k = operands a.operation in
       ⊎_elim (λ (g : shares k ops ≡ true). or_left (shares k ops) (any (before a) c) g)
       (λ (g : any (λ (q : Record). shares k (operands q.operation)) c ≡ true). let w = any-in (λ (q : Record). shares k (operands q.operation)) c g in
@@ -85,8 +85,8 @@ module _ (ops : List ℕ) (a : Record) (c : List Record) (later : (q : Record) �
       (or_cases (shares k ops) _ (sym (objects-test k ops c) ∙ h))
 
   -- or if it shares one of those that are no overwrites
-  pub others-drawn : shares (operands a.operation) (others_found ops c) ≡ true → drawn ≡ true
-  others-drawn h =
+  pub others-due : shares (operands a.operation) (others_found ops c) ≡ true → due ≡ true
+  others-due h =
       let k = operands a.operation in
       let f : Record → Bool = λ q. not (is_overwrite q.operation) && shares k (operands q.operation) in
       ⊎_elim (λ (g : shares k ops ≡ true). or_left (shares k ops) (any (before a) c) g)
@@ -96,9 +96,9 @@ module _ (ops : List ℕ) (a : Record) (c : List Record) (later : (q : Record) �
       (or_cases (shares k ops) _ (sym (others-test k ops c) ∙ h))
 
   -- else only the pairs decide
-  pub pairs-drawn : shares (operands a.operation) (others_found ops c) ≡ false → drawn ≡ any (λ (q : Record). directly_precedes a.operation q.operation) c
+  pub pairs-due : shares (operands a.operation) (others_found ops c) ≡ false → due ≡ any (λ (q : Record). directly_precedes a.operation q.operation) c
   unfolding any
-  pairs-drawn h =
+  pairs-due h =
       let k = operands a.operation in
       rw (or-none (shares k ops) _ (sym (others-test k ops c) ∙ h)) (each c later)
     where

@@ -17,7 +17,7 @@ use Rattle.log_rules.specs.Code.Flags.{stands, Holds, chosen}
 use Rattle.log_operands.specs.declared.Order.{Order}
 use Rattle.log_operands.specs.Code.Ordering.{Stretched, Ordering}
 use Rattle.log_order.specs.Code.Closed.{is_found, found_in, some_after, is_overwrite, objects_found, others_found, Closed, ClosedMore, FoundAt}
-use Rattle.log_order.specs.Laws.Close.{drawn, drawn-touches, plain-drawn, others-drawn, pairs-drawn, found-later, turn, turn-count}
+use Rattle.log_order.specs.Laws.Close.{due, due-touches, plain-due, others-due, pairs-due, found-later, turn, turn-count}
 
 -- an operation is told as an overwrite if it is one
 overwrite-told : (rec : List ℕ) (p : Operation) (o : Order) → Ordering rec p o → is_overwrite p ≡ o.overwrite
@@ -38,21 +38,21 @@ module _ {l : List Slot} {j : ℕ} {found set₁ set₂ rec : List ℕ} {o : Ord
 
   -- else by what is found behind it
   module _ (e : stands found j ≡ false) where
-    by-drawn : (r : Bool) → ((pick : Record → Bool) (ops : List ℕ) → Ordering rec (slot_at l j).recorded.operation o → Closed pick ops l (j + 1) found set₁ set₂
-        → r ≡ drawn ops (slot_at l j).recorded (found_in pick ops (drop (j + 1) l)) (found-later pick ops l rise j h)) → FoundAt l j found set₁ set₂ rec o r
-    by-drawn r d = record { is = λ pick ops wait told c. rw (settled (c.picks j (omega arith) wait) e) (d pick ops told c) }
+    by-due : (r : Bool) → ((pick : Record → Bool) (ops : List ℕ) → Ordering rec (slot_at l j).recorded.operation o → Closed pick ops l (j + 1) found set₁ set₂
+        → r ≡ due ops (slot_at l j).recorded (found_in pick ops (drop (j + 1) l)) (found-later pick ops l rise j h)) → FoundAt l j found set₁ set₂ rec o r
+    by-due r d = record { is = λ pick ops wait told c. rw (settled (c.picks j (omega arith) wait) e) (d pick ops told c) }
 
     pub found-apart : {x : Bool} → Shares rec o set₁ x → x ≡ false → FoundAt l j found set₁ set₂ rec o false
-    found-apart t f = by-drawn false (λ pick ops told c. same_test false _ (λ z. absurd (false≢true z)) (λ d. settled f (t _ _ told c.all) ∙ drawn-touches ops (slot_at l j).recorded _ (found-later pick ops l rise j h) d))
+    found-apart t f = by-due false (λ pick ops told c. same_test false _ (λ z. absurd (false≢true z)) (λ d. settled f (t _ _ told c.all) ∙ due-touches ops (slot_at l j).recorded _ (found-later pick ops l rise j h) d))
 
     pub found_plain : {x : Bool} → Shares rec o set₁ x → x ≡ true → o.overwrite ≡ false → FoundAt l j found set₁ set₂ rec o true
-    found_plain t f w = by-drawn true (λ pick ops told c. sym (plain-drawn ops (slot_at l j).recorded _ (found-later pick ops l rise j h) (overwrite-told rec _ o told ∙ w) (settled (t _ _ told c.all) f)))
+    found_plain t f w = by-due true (λ pick ops told c. sym (plain-due ops (slot_at l j).recorded _ (found-later pick ops l rise j h) (overwrite-told rec _ o told ∙ w) (settled (t _ _ told c.all) f)))
 
     pub found-others : {x : Bool} → Shares rec o set₂ x → x ≡ true → FoundAt l j found set₁ set₂ rec o true
-    found-others t f = by-drawn true (λ pick ops told c. sym (others-drawn ops (slot_at l j).recorded _ (found-later pick ops l rise j h) (settled (t _ _ told c.others) f)))
+    found-others t f = by-due true (λ pick ops told c. sym (others-due ops (slot_at l j).recorded _ (found-later pick ops l rise j h) (settled (t _ _ told c.others) f)))
 
     pub found-pairs : {x r : Bool} → Shares rec o set₂ x → x ≡ false → ((a : Operation) → Ordering rec a o → r ≡ some_after a (chosen (drop (j + 1) found) (drop (j + 1) l))) → FoundAt l j found set₁ set₂ rec o r
-    found-pairs t f d = by-drawn _ (λ pick ops told c. d _ told ∙ ap (some_after _) c.these ∙ sym (pairs-drawn ops (slot_at l j).recorded _ (found-later pick ops l rise j h) (settled (t _ _ told c.others) f)))
+    found-pairs t f d = by-due _ (λ pick ops told c. d _ told ∙ ap (some_after _) c.these ∙ sym (pairs-due ops (slot_at l j).recorded _ (found-later pick ops l rise j h) (settled (t _ _ told c.others) f)))
 
 -- a turn as a step of the pass: the slot's operation is found and its operands are put into the sets, or it is not
 module _ {l : List Slot} {j : ℕ} {found set₁ set₂ : List ℕ} (h : j < length l) (room : j < length found) where

@@ -5,7 +5,6 @@ use Rattle.std.proofs.Math.Option.{none}
 use Rattle.record.specs.Operation.{Operation, create_file, make_directory, rename, overwrite, set_length, Record, operands}
 use Rattle.record.specs.Fields.{member}
 use Rattle.log_rules.specs.Programs.{union_of}
-use Rattle.log_rules.specs.Standing.{empty_standing}
 use Rattle.log_rules.specs.Slot.{waiting, lost, Log}
 use Rattle.log_rules.specs.Order.{shares, directly_precedes, any, closure, needed, predecessors}
 use Rattle.log_rules.specs.Change.{waiting_of, dependents_of, discard}
@@ -64,11 +63,11 @@ renames =
 abbrev pub waiting_log : Log
 waiting_log =
     record {
-      head = record { next = 4; marks = 2; standing = empty_standing };
+      head = record { next = 4; marks = 2 };
       slots =
-          record { state = lost; dependents = 0; recorded = record { sequence = 1; program = 1; operation = over 0 4 }; due = 7 }
-          ∷ record { state = waiting; dependents = 5; recorded = record { sequence = 2; program = 0; operation = over 0 4 }; due = 7 }
-          ∷ record { state = waiting; dependents = 12; recorded = record { sequence = 3; program = 2; operation = over 4 4 }; due = 9 }
+          record { state = lost; dependents = 0; recorded = record { sequence = 1; program = 1; operation = over 0 4 } }
+          ∷ record { state = waiting; dependents = 5; recorded = record { sequence = 2; program = 0; operation = over 0 4 } }
+          ∷ record { state = waiting; dependents = 12; recorded = record { sequence = 3; program = 2; operation = over 4 4 } }
           ∷ [];
     }
 

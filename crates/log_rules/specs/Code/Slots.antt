@@ -14,7 +14,7 @@ slot_part s i = take slot_bytes (drop (i * slot_bytes) s)
 
 -- the slot at a position; past the last one a slot that stands for none
 abbrev pub no_slot : Slot
-no_slot = record { state = lost; dependents = 0; recorded = record_of 0 0 (forder []); due = 0 }
+no_slot = record { state = lost; dependents = 0; recorded = record_of 0 0 (forder []) }
 
 abbrev pub slot_at : List Slot → ℕ → Slot
 slot_at l i = get_or l i no_slot

@@ -11,15 +11,12 @@ use Rattle.buffer.specs.Laws.Test.{or_left}
 use Rattle.record.specs.Operation.{Operation, Record, operands}
 use Rattle.record.specs.Fields.{valid, fits}
 use Rattle.log_rules.specs.Programs.{without, union, holds, with}
-use Rattle.log_rules.specs.Slot.{State, waiting, lost, state_number, Slot, with_state, with_dependents, Log, with_next, with_standing, with_slots, is_waiting, sequence_of, good_slots, follows, rising, well_formed_log}
+use Rattle.log_rules.specs.Slot.{State, waiting, lost, state_number, Slot, with_state, with_dependents, Log, with_slots, is_waiting, sequence_of, good_slots, follows, rising, well_formed_log}
 use Rattle.log_rules.specs.Order.{shares, any}
 use Rattle.log_rules.specs.Depend.{reach, noted}
-use Rattle.rows.specs.Laws.Due.{due-last}
-use Rattle.log_rules.specs.Standing.{Standing, good_standing, seen}
-use Rattle.log_rules.specs.Laws.Standing.{seen-good}
-use Rattle.log_rules.specs.Change.{waiting_of, note, waiting_slot, due_now, issue, removed, is_sequence, sent, discarded, dependents_of, discard, is_loss_of, earliest, taken, renewed, waiting_at}
+use Rattle.log_rules.specs.Change.{waiting_of, note, waiting_slot, issue, removed, is_sequence, sent, discarded, dependents_of, discard, is_loss_of, earliest, taken, renewed, waiting_at}
 use Rattle.log_rules.specs.Laws.Program.{with-below, without-below, union-below, holds-without, holds-union, holds-none}
-use Rattle.log_rules.specs.Laws.Slot.{next-good, marks-good, standing-good, and_both, GoodSlot, GoodHead, slots-inv, slots-of, formed-inv, formed-of}
+use Rattle.log_rules.specs.Laws.Slot.{next-good, marks-good, and_both, GoodSlot, slots-inv, slots-of, formed-inv, formed-of}
 use Rattle.log_rules.specs.Laws.Order.{InOrder}
 
 then-inv : (a b : Bool) → (not a || b) ≡ true → a ≡ true → b ≡ true
@@ -110,7 +107,6 @@ noting-good n b p c s h g = go (is_waiting s && c) refl
           fit = g.fit;
           small = with-below s.dependents p g.small h;
           none-if-lost = or_left (is_waiting s) (eqb (with s.dependents p) 0) ((and-eq-true_iff (is_waiting s) c).0 e).0;
-          due-small = g.due-small;
         }
     go false e = g
 
@@ -181,9 +177,9 @@ waiting-append (s ∷ u) v = rw (waiting-append u v) (go (is_waiting s))
     go false = refl
 
 -- the operation that a call issues waits last
-pub issue-waiting : (p clock k : ℕ) (o : Operation) (l : Log) → waiting_of (issue p clock k o l).slots ≡ waiting_of l.slots ++ (record { sequence = l.head.next; program = p; operation = o } ∷ [])
+pub issue-waiting : (p : ℕ) (o : Operation) (l : Log) → waiting_of (issue p o l).slots ≡ waiting_of l.slots ++ (record { sequence = l.head.next; program = p; operation = o } ∷ [])
 unfolding issue waiting_of
-issue-waiting p clock k o l = waiting-append l.slots (waiting_slot (record { sequence = l.head.next; program = p; operation = o }) _ ∷ [])
+issue-waiting p o l = waiting-append l.slots (waiting_slot (record { sequence = l.head.next; program = p; operation = o }) ∷ [])
 
 good-append : (n b : ℕ) (l : List Slot) (s : Slot) → good_slots n b l ≡ true → GoodSlot n b s → good_slots n b (l ++ (s ∷ [])) ≡ true
 unfolding good_slots
@@ -204,22 +200,19 @@ rising-append next (t ∷ u ∷ l) s h e w =
     and_both (follows t u) (rising (next + 1) (u ∷ (l ++ (s ∷ [])))) g.0 (rising-append next (u ∷ l) s g.1 e w)
 
 -- "takes one sequence number and waits": with a free slot and a number left, the log stays well formed
-pub issue-good : (n b m p clock k : ℕ) (o : Operation) (l : Log) → p < 32 → well_formed_log n b m l ≡ true → length l.slots < m → l.head.next < 4294967295
+pub issue-good : (n b m p : ℕ) (o : Operation) (l : Log) → p < 32 → well_formed_log n b m l ≡ true → length l.slots < m → l.head.next < 4294967295
     → valid (record { sequence = l.head.next; program = p; operation = o }) ≡ true → fits n b (record { sequence = l.head.next; program = p; operation = o }) ≡ true
-    → well_formed_log n b m (issue p clock k o l) ≡ true
+    → well_formed_log n b m (issue p o l) ≡ true
 unfolding issue
-issue-good n b m p clock k o l h w c x v t =
+issue-good n b m p o l h w c x v t =
     let f = formed-inv n b m l w in
-    let now = seen clock l.head.standing in
-    let s = waiting_slot (record { sequence = l.head.next; program = p; operation = o }) (due_now now k) in
+    let s = waiting_slot (record { sequence = l.head.next; program = p; operation = o }) in
     let a = length-append l.slots (s ∷ []) in
-    let d = due-last now.latest k now.rows in
-    let next : GoodHead (with_next (l.head.next + 1) l).head = next-good (l.head.next + 1) l (omega arith) (omega arith) f.head in
-    formed-of n b m (issue p clock k o l)
+    formed-of n b m (issue p o l)
     (record {
-      head = standing-good now (with_next (l.head.next + 1) l) (seen-good clock l.head.standing f.head.stands) next;
+      head = next-good (l.head.next + 1) l (omega arith) (omega arith) f.head;
       count = omega arith;
-      good = good-append n b l.slots s f.good (record { sound = v; fit = t; small = with-below 0 p (omega arith) h; none-if-lost = refl; due-small = omega arith });
+      good = good-append n b l.slots s f.good (record { sound = v; fit = t; small = with-below 0 p (omega arith) h; none-if-lost = refl });
       order = rising-append l.head.next l.slots s f.order refl refl;
     })
 
@@ -356,7 +349,7 @@ discarded-good : (n b : ℕ) (s : Slot) → GoodSlot n b s → GoodSlot n b (dis
 discarded-good n b s g = go (is_waiting s)
   where
     go : (t : Bool) → GoodSlot n b (cond t (with_state lost (with_dependents 0 s)) s)
-    go true = record { sound = g.sound; fit = g.fit; small = omega arith; none-if-lost = refl; due-small = g.due-small }
+    go true = record { sound = g.sound; fit = g.fit; small = omega arith; none-if-lost = refl }
     go false = g
 
 -- good slots are good when they are discarded
@@ -533,9 +526,3 @@ waiting-at n b m l w {r} k =
     let u = waiting-in l.slots k in
     let e = earliest-at l.head.next l.slots (rising-inv l.head.next l.slots (formed-inv n b m l w).order) u.1 u.2 in
     subst (λ (x : Record). earliest (is_sequence x.sequence) l.slots ≡ some x) (sym u.3) e
-
--- another time and other rows keep the log well formed
-pub standing-formed : (n b m : ℕ) (t : Standing) (l : Log) → good_standing t ≡ true → well_formed_log n b m l ≡ true → well_formed_log n b m (with_standing t l) ≡ true
-standing-formed n b m t l h w =
-    let f = formed-inv n b m l w in
-    formed-of n b m (with_standing t l) (record { head = standing-good t l h f.head; count = f.count; good = f.good; order = f.order })

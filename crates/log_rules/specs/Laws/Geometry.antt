@@ -44,7 +44,7 @@ good-most n b [] hn hb h = refl
 good-most n b (s ∷ l) hn hb h =
     let g = slots-inv n b s l h in
     let c = g.0 in
-    slots-of 256 64 s l (record { sound = c.sound; fit = fits-most n b s.recorded hn hb c.fit; small = c.small; none-if-lost = c.none-if-lost; due-small = c.due-small })
+    slots-of 256 64 s l (record { sound = c.sound; fit = fits-most n b s.recorded hn hb c.fit; small = c.small; none-if-lost = c.none-if-lost })
     (good-most n b l hn hb g.1)
 
 -- a well-formed log is well formed in the largest geometry

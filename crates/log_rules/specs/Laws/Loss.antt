@@ -38,9 +38,9 @@ append-lost p (s ∷ u) v = go (is_loss_of p s) (append-lost p u v)
     go false e = e
 
 -- what is issued waits
-pub issue-lost : (p q clock k : ℕ) (o : Operation) (l : Log) → losses_of p (issue q clock k o l).slots ≡ losses_of p l.slots
+pub issue-lost : (p q : ℕ) (o : Operation) (l : Log) → losses_of p (issue q o l).slots ≡ losses_of p l.slots
 unfolding issue losses_of
-issue-lost p q clock k o l = append-lost p l.slots (waiting_slot (record { sequence = l.head.next; program = q; operation = o }) _ ∷ []) ∙ append-nil (losses_of p l.slots)
+issue-lost p q o l = append-lost p l.slots (waiting_slot (record { sequence = l.head.next; program = q; operation = o }) ∷ []) ∙ append-nil (losses_of p l.slots)
 
 waits-no-loss : (p : ℕ) (s : Slot) → is_waiting s ≡ true → is_loss_of p s ≡ false
 waits-no-loss p s e = ap (λ (b : Bool). not b && eqb s.recorded.program p) e

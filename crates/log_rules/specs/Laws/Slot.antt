@@ -3,9 +3,7 @@ use Rattle.std.specs.Prelude.{ℕ, ◌^◌, ◌≤◌, ◌<◌, ◌≡◌, refl,
 use Rattle.std.proofs.Common.{arith, leb-true, ltb-true, le-leb, lt-ltb}
 use Rattle.std.proofs.Math.Bool.{and-eq-true_iff}
 use Rattle.record.specs.Fields.{valid, fits}
-use Rattle.log_rules.specs.Standing.{Standing, good_standing}
-use Rattle.log_rules.specs.Laws.Standing.{empty-standing}
-use Rattle.log_rules.specs.Slot.{Slot, Head, Log, with_next, with_marks, with_standing, is_waiting, good_slot, good_slots, rising, good_head, well_formed_log, empty_log}
+use Rattle.log_rules.specs.Slot.{Slot, Head, Log, with_next, with_marks, is_waiting, good_slot, good_slots, rising, good_head, well_formed_log, empty_log}
 
 -- both tests are passed
 pub and_both : (a b : Bool) → a ≡ true → b ≡ true → (a && b) ≡ true
@@ -17,28 +15,21 @@ pub record GoodSlot (n b : ℕ) (s : Slot) : Type 0 where
   pub fit : fits n b s.recorded ≡ true
   pub small : s.dependents < 2 ^ 32
   pub none-if-lost : (is_waiting s || eqb s.dependents 0) ≡ true
-  pub due-small : s.due < 2 ^ 32
 
 -- a slot that passes the test has each part
 pub slot-inv : (n b : ℕ) (s : Slot) → good_slot n b s ≡ true → GoodSlot n b s
 slot-inv n b s h =
-    let g = (and-eq-true_iff _ _).0 h in
+    let g = (and-eq-true_iff (valid s.recorded && fits n b s.recorded) (ltb s.dependents (2 ^ 32) && (is_waiting s || eqb s.dependents 0))).0 h in
     let v = (and-eq-true_iff (valid s.recorded) (fits n b s.recorded)).0 g.0 in
-    let r = (and-eq-true_iff _ _).0 g.1 in
-    let d = (and-eq-true_iff (ltb s.dependents (2 ^ 32)) (is_waiting s || eqb s.dependents 0)).0 r.0 in
-    record {
-      sound = v.0;
-      fit = v.1;
-      small = ltb-true s.dependents (2 ^ 32) d.0;
-      none-if-lost = d.1;
-      due-small = ltb-true s.due (2 ^ 32) r.1;
-    }
+    let d = (and-eq-true_iff (ltb s.dependents (2 ^ 32)) (is_waiting s || eqb s.dependents 0)).0 g.1 in
+    record { sound = v.0; fit = v.1; small = ltb-true s.dependents (2 ^ 32) d.0; none-if-lost = d.1 }
 
 -- a slot that has each part passes the test
 pub slot_of : (n b : ℕ) (s : Slot) → GoodSlot n b s → good_slot n b s ≡ true
 slot_of n b s g =
-    and_both _ _ (and_both _ _ g.sound g.fit)
-    (and_both _ _ (and_both _ _ (lt-ltb s.dependents (2 ^ 32) g.small) g.none-if-lost) (lt-ltb s.due (2 ^ 32) g.due-small))
+    and_both (valid s.recorded && fits n b s.recorded) (ltb s.dependents (2 ^ 32) && (is_waiting s || eqb s.dependents 0))
+    (and_both (valid s.recorded) (fits n b s.recorded) g.sound g.fit)
+    (and_both (ltb s.dependents (2 ^ 32)) (is_waiting s || eqb s.dependents 0) (lt-ltb s.dependents (2 ^ 32) g.small) g.none-if-lost)
 
 -- of good slots the first is good and so are the others
 pub slots-inv : (n b : ℕ) (s : Slot) (l : List Slot) → good_slots n b (s ∷ l) ≡ true → GoodSlot n b s × (good_slots n b l ≡ true)
@@ -55,36 +46,25 @@ pub record GoodHead (h : Head) : Type 0 where
   pub from_one : 1 ≤ h.next
   pub in_four : h.next < 2 ^ 32
   pub marks-small : h.marks < 2 ^ 32
-  pub stands : good_standing h.standing ≡ true
 
 -- a head that passes the test has each part
 pub head-inv : (h : Head) → good_head h ≡ true → GoodHead h
 head-inv h t =
-    let g = (and-eq-true_iff _ _).0 t in
+    let g = (and-eq-true_iff (leb 1 h.next && ltb h.next (2 ^ 32)) (ltb h.marks (2 ^ 32))).0 t in
     let k = (and-eq-true_iff (leb 1 h.next) (ltb h.next (2 ^ 32))).0 g.0 in
-    let m = (and-eq-true_iff (ltb h.marks (2 ^ 32)) (good_standing h.standing)).0 g.1 in
-    record {
-      from_one = leb-true 1 h.next k.0;
-      in_four = ltb-true h.next (2 ^ 32) k.1;
-      marks-small = ltb-true h.marks (2 ^ 32) m.0;
-      stands = m.1;
-    }
+    record { from_one = leb-true 1 h.next k.0; in_four = ltb-true h.next (2 ^ 32) k.1; marks-small = ltb-true h.marks (2 ^ 32) g.1 }
 
 -- a head that has each part passes the test
 pub head_of : (h : Head) → GoodHead h → good_head h ≡ true
 head_of h g =
-    and_both _ _ (and_both _ _ (le-leb 1 h.next g.from_one) (lt-ltb h.next (2 ^ 32) g.in_four))
-    (and_both _ _ (lt-ltb h.marks (2 ^ 32) g.marks-small) g.stands)
+    and_both _ _ (and_both _ _ (le-leb 1 h.next g.from_one) (lt-ltb h.next (2 ^ 32) g.in_four)) (lt-ltb h.marks (2 ^ 32) g.marks-small)
 
--- another next number, other marks, and another time or rows, of a good head
+-- another next number, and other marks, of a good head
 pub next-good : (v : ℕ) (l : Log) → 1 ≤ v → v < 2 ^ 32 → GoodHead l.head → GoodHead (with_next v l).head
-next-good v l f t g = record { from_one = f; in_four = t; marks-small = g.marks-small; stands = g.stands }
+next-good v l f t g = record { from_one = f; in_four = t; marks-small = g.marks-small }
 
 pub marks-good : (k : ℕ) (l : Log) → k < 2 ^ 32 → GoodHead l.head → GoodHead (with_marks k l).head
-marks-good k l t g = record { from_one = g.from_one; in_four = g.in_four; marks-small = t; stands = g.stands }
-
-pub standing-good : (t : Standing) (l : Log) → good_standing t ≡ true → GoodHead l.head → GoodHead (with_standing t l).head
-standing-good t l h g = record { from_one = g.from_one; in_four = g.in_four; marks-small = g.marks-small; stands = h }
+marks-good k l t g = record { from_one = g.from_one; in_four = g.in_four; marks-small = t }
 
 -- what is asked of a log, part by part
 pub record Formed (n b m : ℕ) (l : Log) : Type 0 where
@@ -113,4 +93,4 @@ pub empty-good : (n b m : ℕ) → well_formed_log n b m empty_log ≡ true
 unfolding good_slots rising
 empty-good n b m =
     formed-of n b m empty_log
-    (record { head = record { from_one = omega arith; in_four = omega arith; marks-small = omega arith; stands = empty-standing }; count = omega arith; good = refl; order = refl })
+    (record { head = record { from_one = omega arith; in_four = omega arith; marks-small = omega arith }; count = omega arith; good = refl; order = refl })

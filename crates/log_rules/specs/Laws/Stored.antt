@@ -5,7 +5,7 @@ use Rattle.std.proofs.Math.Bool.{and-eq-true_iff}
 use Rattle.std.proofs.Math.Option.{none, some}
 use Rattle.buffer.specs.Numeral.{bytes, numeral}
 use Rattle.buffer.specs.Patch.{patch}
-use Rattle.buffer.specs.Laws.Numeral.{length-bytes, numeral-bytes}
+use Rattle.buffer.specs.Laws.Numeral.{numeral-bytes}
 use Rattle.record.specs.Operation.{Record}
 use Rattle.record.specs.Fields.{encode, valid}
 use Rattle.record.specs.Decode.{decode_record}
@@ -13,13 +13,10 @@ use Rattle.record.specs.Laws.Record.{encode-length}
 use Rattle.record.specs.Laws.Decode.{decode-encoded}
 use Rattle.volume_entry.specs.Stored.{padded, same_bytes}
 use Rattle.volume_entry.specs.Laws.Entry.{same_bytes-eq, bytes_same, length-padded}
-use Rattle.rows.specs.Rows.{Row}
-use Rattle.rows.specs.Stored.{most_rows, encode_rows}
-use Rattle.log_rules.specs.Standing.{with_latest, with_rows}
-use Rattle.log_rules.specs.Slot.{State, waiting, lost, state_number, Slot, Log, with_marks, with_standing, good_slots, well_formed_log}
-use Rattle.log_rules.specs.Stored.{marks_at, standing_at, row_count_at, head_bytes, slot_bytes, dependents_at, record_bytes, record_end, log_bytes, encode_slot, encode_slots, encode_head, encode_log, record_part, slot_from, read_slot, read_slots, read_head, read_log, decode_log}
+use Rattle.log_rules.specs.Slot.{State, waiting, lost, state_number, Slot, Log, with_marks, good_slots, well_formed_log}
+use Rattle.log_rules.specs.Stored.{marks_at, head_bytes, slot_bytes, dependents_at, record_bytes, log_bytes, encode_slot, encode_slots, encode_head, encode_log, record_part, slot_from, read_slot, read_slots, read_head, read_log, decode_log}
 use Rattle.log_rules.specs.Laws.Slot.{slots-inv, formed-inv}
-use Rattle.log_rules.specs.Laws.Head.{length-head, behind-head, read-head, marks-put, latest-put, rows-put}
+use Rattle.log_rules.specs.Laws.Head.{length-head, behind-head, read-head, marks-put}
 
 -- the record's part of a slot is filled
 part-long : (s : Slot) → valid s.recorded ≡ true → length (padded record_bytes (encode s.recorded)) ≡ record_bytes
@@ -28,11 +25,7 @@ part-long s h = length-padded record_bytes (encode s.recorded) (encode-length s.
 -- the bytes of one slot are so many
 pub length-slot : (s : Slot) → valid s.recorded ≡ true → length (encode_slot s) ≡ slot_bytes
 unfolding encode_slot bytes
-length-slot s h =
-    let p = part-long s h in
-    let a = length-append (padded record_bytes (encode s.recorded)) (bytes 4 s.due) in
-    let d = length-bytes 4 s.due in
-    omega arith
+length-slot s h = let p = part-long s h in omega arith
 
 -- the bytes of so many good slots
 pub length-slots : (n b : ℕ) (l : List Slot) → good_slots n b l ≡ true → length (encode_slots l) ≡ length l * slot_bytes
@@ -59,20 +52,10 @@ pub marks-stored : (m v : ℕ) (l : Log) → patch (encode_log m l) marks_at (by
 unfolding encode_log
 marks-stored m v l = marks-put v l _
 
--- another latest time put into a log's bytes, and other rows
-pub latest-stored : (m v : ℕ) (l : Log) → patch (encode_log m l) standing_at (bytes 4 v) ≡ encode_log m (with_standing (with_latest v l.head.standing) l)
-unfolding encode_log
-latest-stored m v l = latest-put v l _
-
-pub rows-stored : (m : ℕ) (r : List Row) (l : Log)
-    → patch (encode_log m l) row_count_at (bytes 4 (length r) ++ encode_rows most_rows r) ≡ encode_log m (with_standing (with_rows r l.head.standing) l)
-unfolding encode_log
-rows-stored m r l = rows-put r l _
-
 -- the loss record and the zeros behind it, in a slot's bytes
 pub record-held : (s : Slot) → valid s.recorded ≡ true → record_part (encode_slot s) ≡ padded record_bytes (encode s.recorded)
 unfolding encode_slot bytes
-record-held s h = take_at (padded record_bytes (encode s.recorded)) (bytes 4 s.due) record_bytes (part-long s h)
+record-held s h = let p = part-long s h in take_all record_bytes _ (omega arith)
 
 slot-record : (s : Slot) → valid s.recorded ≡ true → decode_record (record_part (encode_slot s)) ≡ some s.recorded
 slot-record s h = ap decode_record (record-held s h) ∙ decode-encoded s.recorded (replicate (record_bytes - length (encode s.recorded)) 0) h
@@ -81,27 +64,18 @@ pub slot-dependents : (s : Slot) → s.dependents < 2 ^ 32 → numeral (take 4 (
 unfolding encode_slot bytes
 slot-dependents s d = numeral-bytes 4 s.dependents d
 
--- the due time behind the record's part
-pub slot_due : (s : Slot) → valid s.recorded ≡ true → s.due < 2 ^ 32 → numeral (take 4 (drop record_end (encode_slot s))) ≡ s.due
-unfolding encode_slot bytes
-slot_due s h d =
-    ap (λ (x : List ℕ). numeral (take 4 x)) (drop_at (padded record_bytes (encode s.recorded)) (bytes 4 s.due) record_bytes (part-long s h))
-    ∙ ap numeral (take_all 4 (bytes 4 s.due) (omega (arith, length-bytes 4 s.due))) ∙ numeral-bytes 4 s.due d
-
 pub slot-state : (s : Slot) → get_or (encode_slot s) 0 0 ≡ state_number s.state % 256
 unfolding encode_slot bytes
 slot-state s = refl
 
-state-back : (t : State) (d : ℕ) (r : Record) (u : ℕ)
-    → slot_from (state_number t % 256) d (some r) u ≡ some (record { state = t; dependents = d; recorded = r; due = u })
-state-back waiting d r u = refl
-state-back lost d r u = refl
+state-back : (t : State) (d : ℕ) (r : Record) → slot_from (state_number t % 256) d (some r) ≡ some (record { state = t; dependents = d; recorded = r })
+state-back waiting d r = refl
+state-back lost d r = refl
 
 -- a slot is read back from its bytes
-pub read-slot : (s : Slot) → valid s.recorded ≡ true → s.dependents < 2 ^ 32 → s.due < 2 ^ 32 → read_slot (encode_slot s) ≡ some s
+pub read-slot : (s : Slot) → valid s.recorded ≡ true → s.dependents < 2 ^ 32 → read_slot (encode_slot s) ≡ some s
 unfolding read_slot
-read-slot s h d u =
-    rw (slot-state s, slot-dependents s d, slot-record s h, slot_due s h u) (state-back s.state s.dependents s.recorded s.due)
+read-slot s h d = rw (slot-state s, slot-dependents s d, slot-record s h) (state-back s.state s.dependents s.recorded)
 
 zeros-start : (k : ℕ) → ◌≡◌ {A = ℕ} (get_or (replicate k 0) 0 0) 0
 zeros-start zero = refl
@@ -131,7 +105,7 @@ read-slots n b (suc m) k (s ∷ l) h e =
     let as₁ = append_assoc (encode_slot s) (encode_slots l) (replicate k 0) in
     let t = take_at (encode_slot s) (encode_slots l ++ replicate k 0) slot_bytes a in
     let d = drop_at (encode_slot s) (encode_slots l ++ replicate k 0) slot_bytes a in
-    let r = read-slot s g.0.sound g.0.small g.0.due-small in
+    let r = read-slot s g.0.sound g.0.small in
     rw (as₁, t, d, r) (ap (λ (y : List Slot). s ∷ y) (read-slots n b m k l g.1 (omega arith)))
 
 -- a well-formed log is read back from its bytes

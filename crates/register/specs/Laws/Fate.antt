@@ -92,13 +92,6 @@ module _ (q : ℕ) (a : Acknowledged) where
       go true = refl
       go false = refl
 
-  pub send-due : (sending q a).due ≡ a.due
-  send-due = go (eqb a.recorded.sequence q)
-    where
-      go : (t : Bool) → (cond t (fated sent a) a).due ≡ a.due
-      go true = refl
-      go false = refl
-
   -- who is sent: who was, and the one of the number
   pub send-sent : is_sent (sending q a) ≡ (is_sent a || eqb a.recorded.sequence q)
   send-sent = go (eqb a.recorded.sequence q)
@@ -163,13 +156,6 @@ module _ (t : ℕ) (a : Acknowledged) where
   lose-issued = go (is_waiting a)
     where
       go : (b : Bool) → (cond b (fated (lost t) a) a).issued ≡ a.issued
-      go true = refl
-      go false = refl
-
-  pub lose-due : (losing t a).due ≡ a.due
-  lose-due = go (is_waiting a)
-    where
-      go : (b : Bool) → (cond b (fated (lost t) a) a).due ≡ a.due
       go true = refl
       go false = refl
 

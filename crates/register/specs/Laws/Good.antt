@@ -1,44 +1,30 @@
 -- Register and model go together as an accepted mount leaves them, and over every list of effects that may take place.
-use Rattle.std.specs.Prelude.{ℕ, ◌≡◌, Bool, false}
-use Rattle.std.proofs.Common.{arith, ◌∙◌}
-use Rattle.std.proofs.Math.Path.{refl, sym, ap, subst}
+use Rattle.std.specs.Prelude.{ℕ, ◌≡◌, true, false}
+use Rattle.std.proofs.Common.{arith, ap, ◌∙◌}
+use Rattle.std.proofs.Math.Path.{refl, sym, subst}
 use mathlib.Core.List.Memᴰ
 use mathlib.Core.List.{List, [], ◌∷◌, map, Memᴰ}
-use Rattle.std.proofs.Math.Bool.{true, cond}
-use Rattle.std.proofs.Math.Option.{Option, none, some}
-use Rattle.record.specs.Operation.{Operation, Record, record_of, object_of}
-use Rattle.rows.specs.Rows.{last_length}
-use Rattle.rows.specs.Due.{time_now, due_time}
+use Rattle.std.proofs.Math.Option.{Option, some}
+use Rattle.record.specs.Operation.{Record}
 use Rattle.volume_tree.specs.Volume.{Volume}
-use Rattle.volume_tree.specs.Form.{well_formed}
-use Rattle.volume_tree.specs.Laws.Form.{well-formed-inv}
-use Rattle.volume_tree.specs.Laws.Change.{good-sound}
-use Rattle.volume_apply.specs.Apply.{applies, apply}
+use Rattle.volume_apply.specs.Apply.{applies}
 use Rattle.log_rules.specs.Order.{any, before}
-use Rattle.log_rules.specs.Standing.{Standing, seen, good_rows}
-use Rattle.log_rules.specs.Laws.Standing.{standing-inv}
-use Rattle.log_rules.specs.Laws.Slot.{formed-inv}
 use Rattle.log_rules.specs.Slot.{empty_log}
-use Rattle.log_rules.specs.Due.{length_at, file_length}
-use Rattle.log_rules.specs.Change
-use Rattle.log_rules.specs.Change.{waiting_of, is_sequence, is_loss_of}
+use Rattle.log_rules.specs.Change.{waiting_of}
 use Rattle.log_rules.specs.Laws.Change.{at-waiting, noted-waiting, taken-waiting}
 use Rattle.log_rules.specs.Laws.Partition.{apply_each, EachApplies, Closed}
-use Rattle.session.specs.Call.{Geometry, Issuer, in_range}
+use Rattle.session.specs.Call.{Geometry}
 use Rattle.session.specs.Model.{Model}
-use Rattle.session.specs.Effect.{Effect, note, issue, send, discard, take, renew, stand, sent_found, perform, perform_all}
-use Rattle.session.specs.Laws.Edit.{blocks-few}
-use Rattle.session.specs.Laws.Possible.{Sound, Issuable, Sendable, Possible, AllPossible}
-use Rattle.register.specs.Replay.{replay}
-use Rattle.register.specs.Register.{Register, Acknowledged, is_waiting, is_sent, begun, later, recorded_of, view_of}
-use Rattle.register.specs.Feed.{next_record, due_in, acknowledged, sending, send_one, losing}
+use Rattle.session.specs.Effect.{Effect, note, issue, send, discard, take, renew, sent_found, perform, perform_all}
+use Rattle.session.specs.Laws.Possible.{Sound, Sendable, Possible, AllPossible}
+use Rattle.register.specs.Register.{Register, Acknowledged, is_waiting, is_sent, begun, later, recorded_of}
+use Rattle.register.specs.Feed.{acknowledged, send_one}
 use Rattle.register.specs.Laws.Happen.{happen, happen_all}
-use Rattle.register.specs.Laws.Fate.{is_live, send-record, send-due, lose-record, lose-due}
-use Rattle.register.specs.Laws.Invariant.{Reckoned, Good}
-use Rattle.register.specs.Laws.Reckon.{due-same, From, from-same, noted-from, discarded-from, removed-from, reckoned-on, reckoned-same, reckoned-more}
+use Rattle.register.specs.Laws.Fate.{is_live}
+use Rattle.register.specs.Laws.Invariant.{Good}
 use Rattle.register.specs.Laws.Operation.{numbers-rise, numbers-below}
 use Rattle.register.specs.Laws.Pick.{picked_none}
-use Rattle.register.specs.Laws.Kept.{Free, free_of, free-applies, view-replayed, same_kept, send-kept, cut-kept, issue-kept}
+use Rattle.register.specs.Laws.Kept.{Free, free_of, free-applies, same_kept, send-kept, cut-kept, issue-kept}
 use Rattle.register.specs.Laws.Timed.{timed-on, timed-send, timed-cut, timed-issue}
 
 -- a register without operations goes with an empty log
@@ -66,13 +52,7 @@ begun-good g v s =
             later = λ a b u m n f w. absurd (Memᴰ.not-nil m);
             shut = λ a c m n s d. absurd (Memᴰ.not-nil m);
           };
-      reckoned = record { standing = refl; due = λ s m. absurd (Memᴰ.not-nil m) };
     }
-
--- the files of a well-formed volume have no more than 65,536 bytes
-file-short : (g : Geometry) (v : Volume) → in_range g ≡ true → well_formed g.objects g.blocks v ≡ true → (o : Option ℕ) → length_at v o ≤ last_length
-file-short g v range good none = omega arith
-file-short g v range good (some o) = let b = blocks-few g range in let h = (good-sound g.objects g.blocks v (well-formed-inv g.objects g.blocks v good)).short o in omega arith
 
 module _ (g : Geometry) (r : Register) (x : Model) (k : Good g r x) where
   -- a waiting operation that no waiting one directly precedes applies to the server
@@ -83,26 +63,16 @@ module _ (g : Geometry) (r : Register) (x : Model) (k : Good g r x) where
 
   -- an effect that sends, issues and discards nothing
   same_good : (y : Model) → Sound g y → y.server ≡ x.server → y.view ≡ x.view → y.log.head.next ≡ x.log.head.next
-      → waiting_of y.log.slots ≡ waiting_of x.log.slots → y.log.head.standing ≡ x.log.head.standing → From y.log.slots x.log.slots → (Good g r y) × Good g (later r) y
-  same_good y s es ev en ew et from =
+      → waiting_of y.log.slots ≡ waiting_of x.log.slots → (Good g r y) × Good g (later r) y
+  same_good y s es ev en ew =
       let kept = same_kept g r x k.kept y s es ev en ew in
-      let reckoned = reckoned-same r.standing r.standing r.operations x y k.reckoned (et ∙ k.reckoned.standing) from in (
-        record { kept = kept; timed = k.timed; reckoned = reckoned },
-        record { kept = kept; timed = timed-on r.operations r.happened k.timed; reckoned = reckoned },
-      )
+      (record { kept = kept; timed = k.timed }, record { kept = kept; timed = timed-on r.operations r.happened k.timed })
 
   -- the send of a waiting operation that no waiting one directly precedes
   free-good : (a : Acknowledged) → Free r.operations a → Sound g (sent_found (some a.recorded) x)
       → Good g (send_one a.recorded.sequence r) (sent_found (some a.recorded) x)
   free-good a f s =
-      let q = a.recorded.sequence in
-      record {
-        kept = send-kept g r x k.kept a f s;
-        timed = timed-send r.operations r.happened k.timed (numbers-rise 1 r.operations k.kept.numbers) a f;
-        reckoned =
-            reckoned-on r.standing r.standing r.operations x (sent_found (some a.recorded) x) (sending q) k.reckoned k.reckoned.standing
-            (removed-from (is_sequence q) x.log.slots) (λ b. (send-record q b, send-due q b));
-      }
+      record { kept = send-kept g r x k.kept a f s; timed = timed-send r.operations r.happened k.timed (numbers-rise 1 r.operations k.kept.numbers) a f }
 
   send-good : (q : ℕ) (z : Record) → Sendable x q z → Sound g (perform (send q) x) → Good g (happen (send q) r) (perform (send q) x)
   unfolding perform happen
@@ -112,51 +82,19 @@ module _ (g : Geometry) (r : Register) (x : Model) (k : Good g r x) where
       subst (λ (n : ℕ). Sound g (perform (send q) x) → Good g (happen (send n) r) (perform (send q) x)) (ap (λ (y : Record). y.sequence) w.1 ∙ m.1)
       (subst (λ (f : Option Record). Sound g (sent_found f x) → Good g (happen (send w.0.recorded.sequence) r) (sent_found f x)) (ap (λ (y : Record). some y) w.1 ∙ sym d.found) (free-good w.0 w.2))
 
-  -- the operation that is issued has the register's due time
-  issue-reckoned : (by : Issuer) (o : Operation) → Issuable g x by.program o → Sound g (perform (issue by o) x)
-      → Reckoned (happen (issue by o) r).standing (happen (issue by o) r).operations (perform (issue by o) x)
-  unfolding perform happen Change.issue replay
-  issue-reckoned by o i s =
-      let v = apply x.view o in
-      let t = r.standing in
-      let now = time_now by.clock t.latest in
-      let same = k.reckoned.standing in
-      let view : replay (view_of r) (next_record by.program o r ∷ []) ≡ v =
-      ap (λ (w : Volume). cond (applies w o) (apply w o) w) (view-replayed g r x k.kept) ∙ ap (λ (b : Bool). cond b v x.view) i.fit in
-      let stands = (formed-inv g.objects g.blocks g.capacity x.log k.kept.sound.log).head.stands in
-      let rows : good_rows t.rows ≡ true = subst (λ (u : Standing). good_rows u.rows ≡ true) same (standing-inv x.log.head.standing stands).good in
-      let due : (acknowledged by o r).due ≡ due_time now (file_length v o) t.rows =
-      ap (λ (w : Volume). due_in now t.rows w o) view ∙ due-same now t.rows v o rows (file-short g v s.range s.view (object_of o)) in
-      reckoned-more t (seen by.clock t) r.operations (acknowledged by o r) _ x (perform (issue by o) x) k.reckoned (ap (seen by.clock) same) refl
-      (λ j. record_of (sym k.kept.next j) by.program o) (due ∙ (λ j. due_time (time_now by.clock (sym same j).latest) (file_length v o) (sym same j).rows))
-
   -- register and model go together after each effect that may take place
   pub effect-good : (e : Effect) → Possible g x e → Sound g (perform e x) → Good g (happen e r) (perform e x)
-  unfolding perform happen Change.discard
-  effect-good (note p ops) h s = (same_good (perform (note p ops) x) s refl refl refl (noted-waiting p ops x.log.slots) refl (noted-from p ops x.log.slots)).1
-  effect-good (issue by o) h s =
+  unfolding perform happen
+  effect-good (note p ops) h s = (same_good (perform (note p ops) x) s refl refl refl (noted-waiting p ops x.log.slots)).1
+  effect-good (issue p o) h s =
       record {
-        kept = issue-kept g r x k.kept by (file_length (apply x.view o) o) o h s;
-        reckoned = issue-reckoned by o h s;
-        timed = timed-issue r.operations r.happened k.timed (acknowledged by o r) refl refl (λ b m. let y = numbers-below 1 r.operations k.kept.numbers b m in omega arith);
+        kept = issue-kept g r x k.kept p o h s;
+        timed = timed-issue r.operations r.happened k.timed (acknowledged p o r) refl refl (λ b m. let y = numbers-below 1 r.operations k.kept.numbers b m in omega arith);
       }
   effect-good (send q) h s = send-good q h.0 h.1 s
-  effect-good discard h s =
-      record {
-        kept = cut-kept g r x k.kept r.happened s;
-        timed = timed-cut r.operations r.happened k.timed;
-        reckoned =
-            reckoned-on r.standing r.standing r.operations x (perform discard x) (losing r.happened) k.reckoned k.reckoned.standing
-            (discarded-from x.log.slots) (λ b. (lose-record r.happened b, lose-due r.happened b));
-      }
-  effect-good (take p) h s = (same_good (perform (take p) x) s refl refl refl (taken-waiting p x.log) refl (removed-from (is_loss_of p) x.log.slots)).0
-  effect-good (renew p) h s = (same_good (perform (renew p) x) s refl refl refl refl refl (from-same x.log.slots)).1
-  effect-good (stand t) h s =
-      record {
-        kept = same_kept g r x k.kept (perform (stand t) x) s refl refl refl refl;
-        timed = k.timed;
-        reckoned = reckoned-same r.standing t r.operations x (perform (stand t) x) k.reckoned refl (from-same x.log.slots);
-      }
+  effect-good discard h s = record { kept = cut-kept g r x k.kept r.happened s; timed = timed-cut r.operations r.happened k.timed }
+  effect-good (take p) h s = (same_good (perform (take p) x) s refl refl refl (taken-waiting p x.log)).0
+  effect-good (renew p) h s = (same_good (perform (renew p) x) s refl refl refl refl).1
 
 -- and after each list of effects of which each may take place where those before it have
 pub good-all : (g : Geometry) (es : List Effect) (r : Register) (x : Model) → Good g r x → AllPossible g x es

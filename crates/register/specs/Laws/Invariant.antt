@@ -1,10 +1,7 @@
 -- What every list of calls keeps between the register and the model that the buffers store, and what the register keeps by itself.
-use Rattle.std.specs.Prelude.{ℕ, ◌+◌, ◌<◌, ◌≡◌, true, length}
-use mathlib.Core.List.{List, [], ◌∷◌, map, Memᴰ}
+use Rattle.std.specs.Prelude.{ℕ, ◌+◌, ◌<◌, ◌≡◌, List, [], ◌∷◌, map, true, length}
 use Rattle.volume_tree.specs.Volume.{Volume}
 use Rattle.volume_tree.specs.Form.{well_formed}
-use Rattle.log_rules.specs.Standing.{Standing}
-use Rattle.log_rules.specs.Slot.{Slot}
 use Rattle.log_rules.specs.Change.{waiting_of}
 use Rattle.log_rules.specs.Laws.Partition.{apply_each, EachApplies, AllFit, picked, Closed}
 use Rattle.session.specs.Call.{Geometry}
@@ -42,15 +39,9 @@ pub record Timed (l : List Acknowledged) (happened : ℕ) : Type 0 where
   pub later : (a b : Acknowledged) (t : ℕ) → Among a l → Among b l → a.fate ≡ lost t → is_waiting b ≡ true → t < b.issued
   pub shut : (a c : Acknowledged) → Among a l → Among c l → is_sent c ≡ true → directly a c ≡ true → is_sent a ≡ true
 
--- the log's latest time and rows are the register's, and each slot has the due time of its operation (document 02, K5)
-pub record Reckoned (t : Standing) (l : List Acknowledged) (x : Model) : Type 0 where
-  pub standing : x.log.head.standing ≡ t
-  pub due : (s : Slot) → Memᴰ s x.log.slots → (a : Acknowledged) × Among a l × (a.recorded ≡ s.recorded) × (a.due ≡ s.due)
-
-pub record GoodBy (g : Geometry) (v : Volume) (l : List Acknowledged) (happened : ℕ) (t : Standing) (x : Model) : Type 0 where
+pub record GoodBy (g : Geometry) (v : Volume) (l : List Acknowledged) (happened : ℕ) (x : Model) : Type 0 where
   pub kept : KeptBy g v l x
   pub timed : Timed l happened
-  pub reckoned : Reckoned t l x
 
 abbrev pub Good : Geometry → Register → Model → Type 0
-Good g r x = GoodBy g r.mounted r.operations r.happened r.standing x
+Good g r x = GoodBy g r.mounted r.operations r.happened x

@@ -20,7 +20,7 @@ use Rattle.log_rules.specs.Change
 use Rattle.log_rules.specs.Change.{waiting_of}
 use Rattle.log_rules.specs.Laws.Change.{sent-waiting, waiting-at, waiting-in-order, discard-waiting, issue-waiting}
 use Rattle.log_rules.specs.Laws.Partition.{apply_each, EachApplies, AllFit, picked, picked-yes, picked-no, picked-in, Closed, partition}
-use Rattle.session.specs.Call.{Geometry, Issuer}
+use Rattle.session.specs.Call.{Geometry}
 use Rattle.session.specs.Model.{Model, with_view, with_log}
 use Rattle.session.specs.Effect.{sent_found}
 use Rattle.session.specs.Laws.Possible.{Sound, Issuable}
@@ -277,14 +277,13 @@ module _ (g : Geometry) (r : Register) (x : Model) (k : Kept g r x) where
       (discard-waiting x.log ∙ sym (ap (map recorded_of) none))
 
   -- one more operation, waiting, at the end
-  pub issue-kept : (by : Issuer) (n : ℕ) (o : Operation) → Issuable g x by.program o → Sound g (with_view (apply x.view o) (with_log (Change.issue by.program by.clock n o x.log) x))
-      → Kept g (later (with_operations (r.operations ++ (acknowledged by o r ∷ [])) r)) (with_view (apply x.view o) (with_log (Change.issue by.program by.clock n o x.log) x))
+  pub issue-kept : (p : ℕ) (o : Operation) → Issuable g x p o → Sound g (with_view (apply x.view o) (with_log (Change.issue p o x.log) x))
+      → Kept g (later (with_operations (r.operations ++ (acknowledged p o r ∷ [])) r)) (with_view (apply x.view o) (with_log (Change.issue p o x.log) x))
   unfolding Change.issue apply_each
-  issue-kept by n o i sound =
+  issue-kept p o i sound =
       let ops = r.operations in
       let v = r.mounted in
-      let p = by.program in
-      let a = acknowledged by o r in
+      let a = acknowledged p o r in
       let q = x.log.head.next in
       let qn : record_of q p o ≡ a.recorded = ap (λ (z : ℕ). record_of z p o) k.next in
       let low = (formed-inv g.objects g.blocks g.capacity x.log k.sound.log).head.from_one in
@@ -310,5 +309,5 @@ module _ (g : Geometry) (r : Register) (x : Model) (k : Kept g r x) where
         view = ap (λ (w : Volume). apply w o) k.view ∙ sym (ap (apply_each recorded_of v) live ∙ apply-append recorded_of v (picked is_live ops) (a ∷ []));
         server = k.server ∙ ap (apply_each recorded_of v) (sym sent-all);
         closed = subst (Closed recorded_of is_sent) (sym live) (closed-end recorded_of is_sent (picked is_live ops) a refl k.closed);
-        waiting = issue-waiting p by.clock n o x.log ∙ (λ j. k.waiting j ++ (qn j ∷ [])) ∙ sym (ap (map recorded_of) (more is_waiting refl) ∙ map-end (picked is_waiting ops) a);
+        waiting = issue-waiting p o x.log ∙ (λ j. k.waiting j ++ (qn j ∷ [])) ∙ sym (ap (map recorded_of) (more is_waiting refl) ∙ map-end (picked is_waiting ops) a);
       }

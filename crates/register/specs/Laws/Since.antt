@@ -29,31 +29,26 @@ use Rattle.register.specs.Laws.Precedes.{members-ready}
 pub record Stands (happened : ℕ) (a b : Acknowledged) : Type 0 where
   pub recorded : b.recorded ≡ a.recorded
   pub issued : b.issued ≡ a.issued
-  pub due : b.due ≡ a.due
   pub sent : is_sent a ≡ true → is_sent b ≡ true
   pub gone : (time : ℕ) → time ≤ happened → gone_by time b.fate ≡ gone_by time a.fate
 
--- a register s that came later than r: each operation of r stands in it, and the latest time did not fall
+-- a register s that came later than r: each operation of r stands in it
 pub record Since (r s : Register) : Type 0 where
   pub happened : r.happened ≤ s.happened
-  pub latest : r.standing.latest ≤ s.standing.latest
   pub stands : (a : Acknowledged) → Is a r → (b : Acknowledged) × Is b s × Stands r.happened a b
 
 pub stands_same : (happened : ℕ) (a : Acknowledged) → Stands happened a a
-stands_same happened a = record { recorded = refl; issued = refl; due = refl; sent = λ e. e; gone = λ n le. refl }
+stands_same happened a = record { recorded = refl; issued = refl; sent = λ e. e; gone = λ n le. refl }
 
 pub since-same : (r : Register) → Since r r
-since-same r = record { happened = omega arith; latest = omega arith; stands = λ a m. (a, m, stands_same r.happened a) }
+since-same r = record { happened = omega arith; stands = λ a m. (a, m, stands_same r.happened a) }
 
 pub since-then : (r s t : Register) → Since r s → Since s t → Since r t
 since-then r s t f g =
     let le₁ = f.happened in
     let le₂ = g.happened in
-    let t₁ = f.latest in
-    let t₂ = g.latest in
     record {
       happened = omega arith;
-      latest = omega arith;
       stands = λ a m.
           let x = f.stands a m in
           let y = g.stands x.0 x.1 in (
@@ -62,7 +57,6 @@ since-then r s t f g =
             record {
               recorded = y.2.recorded ∙ x.2.recorded;
               issued = y.2.issued ∙ x.2.issued;
-              due = y.2.due ∙ x.2.due;
               sent = λ e. y.2.sent (x.2.sent e);
               gone = λ n k. y.2.gone n (omega arith) ∙ x.2.gone n k;
             },
@@ -70,9 +64,9 @@ since-then r s t f g =
     }
 
 -- a register whose operations are those of another, each changed so that it stands
-pub since-map : (r s : Register) (f : Acknowledged → Acknowledged) → s.operations ≡ map f r.operations → r.happened ≤ s.happened → r.standing.latest ≤ s.standing.latest
+pub since-map : (r s : Register) (f : Acknowledged → Acknowledged) → s.operations ≡ map f r.operations → r.happened ≤ s.happened
     → ((a : Acknowledged) → Is a r → Stands r.happened a (f a)) → Since r s
-since-map r s f e le lt h = record { happened = le; latest = lt; stands = λ a m. (f a, subst (λ (l : List Acknowledged). Memᴰ (f a) l) (sym e) (in_map f r.operations a m), h a m) }
+since-map r s f e le h = record { happened = le; stands = λ a m. (f a, subst (λ (l : List Acknowledged). Memᴰ (f a) l) (sym e) (in_map f r.operations a m), h a m) }
 
 -- what was sent stays sent
 pub sent-since : (r s : Register) → Since r s → (q : ℕ) → SentAt r q → SentAt s q
@@ -119,15 +113,14 @@ closed-sent r s f set k a m e =
     let x = f.stands a m in
     ap (λ (z : Record). set z.sequence) (sym x.2.recorded) ∙ k.sent x.0 x.1 (x.2.sent e)
 
--- an effect sends no operation but a waiting one, and sets no earlier time
+-- an effect sends no operation but a waiting one
 abbrev pub SendsWaiting : Effect → Register → Type 0
 SendsWaiting (note p ops) r = Unit {0}
-SendsWaiting (issue i o) r = r.standing.latest ≤ last_time
+SendsWaiting (issue p o) r = Unit {0}
 SendsWaiting (send q) r = (a : Acknowledged) → Is a r → a.recorded.sequence ≡ q → is_waiting a ≡ true
 SendsWaiting discard r = Unit {0}
 SendsWaiting (take p) r = Unit {0}
 SendsWaiting (renew p) r = Unit {0}
-SendsWaiting (stand t) r = r.standing.latest ≤ t.latest
 
 lose-gone : (t : ℕ) (a : Acknowledged) (time : ℕ) → time ≤ t → gone_by time (losing t a).fate ≡ gone_by time a.fate
 lose-gone t a time le = go a.fate
@@ -140,42 +133,35 @@ lose-gone t a time le = go a.fate
 -- after an effect
 pub happen-since : (e : Effect) (r : Register) → SendsWaiting e r → Since r (happen e r)
 unfolding happen
-happen-since (note p ops) r h = record { happened = omega arith; latest = omega arith; stands = λ a m. (a, m, stands_same r.happened a) }
-happen-since (issue i o) r h = record { happened = omega arith; latest = now-latest i.clock r.standing.latest h; stands = λ a m. (a, Memᴰ.append_left _ m, stands_same r.happened a) }
+happen-since (note p ops) r h = record { happened = omega arith; stands = λ a m. (a, m, stands_same r.happened a) }
+happen-since (issue p o) r h = record { happened = omega arith; stands = λ a m. (a, Memᴰ.append_left _ m, stands_same r.happened a) }
 happen-since (send q) r h =
-    since-map r (happen (send q) r) (sending q) refl (omega arith) (omega arith)
+    since-map r (happen (send q) r) (sending q) refl (omega arith)
     (λ a m. record {
       recorded = send-record q a;
       issued = send-issued q a;
-      due = send-due q a;
       sent = λ e. send-sent q a ∙ ap (λ (t : Bool). t || eqb a.recorded.sequence q) e;
       gone = λ n le. send-gone q a (λ e. h a m (eqb-true a.recorded.sequence q e)) n;
     })
 happen-since discard r h =
-    since-map r (happen discard r) (losing r.happened) refl (omega arith) (omega arith)
-    (λ a m. record { recorded = lose-record r.happened a; issued = lose-issued r.happened a; due = lose-due r.happened a; sent = λ e. lose-sent r.happened a ∙ e; gone = λ n le. lose-gone r.happened a n le })
-happen-since (take p) r h = record { happened = omega arith; latest = omega arith; stands = λ a m. (a, m, stands_same r.happened a) }
-happen-since (renew p) r h = record { happened = omega arith; latest = omega arith; stands = λ a m. (a, m, stands_same r.happened a) }
-happen-since (stand t) r h = record { happened = omega arith; latest = h; stands = λ a m. (a, m, stands_same r.happened a) }
+    since-map r (happen discard r) (losing r.happened) refl (omega arith)
+    (λ a m. record { recorded = lose-record r.happened a; issued = lose-issued r.happened a; sent = λ e. lose-sent r.happened a ∙ e; gone = λ n le. lose-gone r.happened a n le })
+happen-since (take p) r h = record { happened = omega arith; stands = λ a m. (a, m, stands_same r.happened a) }
+happen-since (renew p) r h = record { happened = omega arith; stands = λ a m. (a, m, stands_same r.happened a) }
 
 -- as where it may take place
-pub possible-waiting : (g : Geometry) (r : Register) (x : Model) → Good g r x → (e : Effect) → Possible g x e → SendsWaiting e r
+pub possible-waiting : (g : Geometry) (r : Register) (x : Model) → Kept g r x → (e : Effect) → Possible g x e → SendsWaiting e r
 possible-waiting g r x k (note p ops) h = tt
-possible-waiting g r x k (issue i o) h =
-    let stands = (formed-inv g.objects g.blocks g.capacity x.log k.kept.sound.log).head.stands in
-    let small = (standing-inv x.log.head.standing stands).in_four in
-    let same = ap (λ (t : Standing). t.latest) k.reckoned.standing in
-    omega arith
+possible-waiting g r x k (issue p o) h = tt
 possible-waiting g r x k (send q) h =
     let y = at-waiting q x.log h.0 h.1.found in
-    let w = waits-of r.operations h.0 (subst (λ (l : List Record). Memᴰ h.0 l) k.kept.waiting y.0) in
+    let w = waits-of r.operations h.0 (subst (λ (l : List Record). Memᴰ h.0 l) k.waiting y.0) in
     λ a m e.
-    let same : w.who ≡ a = rising-unique recorded_of r.operations (numbers-rise 1 r.operations k.kept.numbers) w.who a w.among m (ap (λ (z : Record). z.sequence) w.recorded ∙ y.1 ∙ sym e) in
+    let same : w.who ≡ a = rising-unique recorded_of r.operations (numbers-rise 1 r.operations k.numbers) w.who a w.among m (ap (λ (z : Record). z.sequence) w.recorded ∙ y.1 ∙ sym e) in
     subst (λ (z : Acknowledged). is_waiting z ≡ true) same w.waiting
 possible-waiting g r x k discard h = tt
 possible-waiting g r x k (take p) h = tt
 possible-waiting g r x k (renew p) h = tt
-possible-waiting g r x k (stand t) h = subst (λ (u : Standing). u.latest ≤ t.latest) k.reckoned.standing h.1
 
 -- after all effects of a list, where what is kept is kept by each
 pub all-since : (g : Geometry) → ((e : Effect) (r : Register) (x : Model) → Good g r x → Possible g x e → Good g (happen e r) (perform e x))
@@ -183,5 +169,5 @@ pub all-since : (g : Geometry) → ((e : Effect) (r : Register) (x : Model) → 
 unfolding happen_all
 all-since g keeps [] r x k h = since-same r
 all-since g keeps (e ∷ es) r x k h =
-    since-then r (happen e r) (happen_all es (happen e r)) (happen-since e r (possible-waiting g r x k e h.0))
+    since-then r (happen e r) (happen_all es (happen e r)) (happen-since e r (possible-waiting g r x k.kept e h.0))
     (all-since g keeps es (happen e r) (perform e x) (keeps e r x k h.0) h.1)

@@ -101,9 +101,9 @@ C n q t = record { number = n; asked = q; told = t }
 abbrev pub small : Geometry
 small = geometry 4 1 6
 
--- a program that makes a change, by a clock that stands at 0
+-- a program that makes a change
 abbrev pub by : ℕ → Issuer
-by p = issuer p 0
+by p = issuer p
 
 -- a name of one byte
 abbrev pub named : ℕ → List ℕ

@@ -1,7 +1,7 @@
 -- What answers tell: a refusal's results are 0 and its buffer is as before; an accepted change tells the next number; an fsync what it
 -- needs, what it sent, or where it stopped; and why a call says that something is damaged.
 use Rattle.std.specs.Prelude.{ℕ, ◌<◌, ◌≡◌, List, [], ◌∷◌, ◌++◌, Bool, true, false, not, cond, length, replicate, ltb}
-use Rattle.std.proofs.Common.{arith, sym, ◌∙◌, subst, ltb-true}
+use Rattle.std.proofs.Common.{arith, sym, ◌∙◌, subst}
 use Rattle.std.proofs.Math.Path.{refl, ap}
 use Rattle.std.proofs.lemmas.Bool.{false≢true}
 use Rattle.std.proofs.Math.Option.{Option, none, some}
@@ -28,7 +28,7 @@ use Rattle.log_rules.specs.Order.{any, before, needed, preceded}
 use Rattle.log_rules.specs.Laws.Order.{direct-decides}
 use Rattle.session.specs.Class.{Question, Change}
 use Rattle.session.specs.Class
-use Rattle.session.specs.Call.{Geometry, Issuer, Call, question, change, link, recovery, lookup, list, stat, read, create_file, make_directory, remove_file, remove_directory, rename, write, set_length, forder, push, fsync, send_due, load_rows, Answer, answer, result_count, own_buffer}
+use Rattle.session.specs.Call.{Geometry, Issuer, Call, question, change, link, recovery, lookup, list, stat, read, create_file, make_directory, remove_file, remove_directory, rename, write, set_length, forder, push, fsync, Answer, answer, result_count, own_buffer}
 use Rattle.session.specs.Question.{question_answer}
 use Rattle.session.specs.Call
 use Rattle.session.specs.Refusal.{Row, row}
@@ -37,7 +37,7 @@ use Rattle.session.specs.Model.{Model, unless, bad_program, is_marked, told_of}
 use Rattle.session.specs.Issue.{issues, on_found, displaced, removes, writes}
 use Rattle.session.specs.Edit.{room_rows, changed, change_rows, make_rows, remove_rows, rename_rows, write_rows, length_rows, forder_rows}
 use Rattle.log_rules.specs.Sends.{applying}
-use Rattle.session.specs.Send.{of_record, push_of, sync_answer, fsync_of, due_at, send_due_of, rows_rows, load_rows_of, no_loss, take_of, renew_of, sync_rows}
+use Rattle.session.specs.Send.{of_record, push_of, sync_answer, fsync_of, no_loss, take_of, renew_of, sync_rows}
 use Rattle.session.specs.Effect.{accepted_effects, issuing}
 use Rattle.session.specs.Step.{answer_of}
 use Rattle.session.specs.Laws.Refusal.{numbered, lacks, Decided, passes, refuses, decided, passed, accepted-passes, own-number, same_number}
@@ -110,42 +110,27 @@ plain_sync p o k x n l d = go (decided (fsync p o k) (sync_rows p o x.view x.log
     go (passes z e) = by e (synced-is k need x.server)
     go (refuses z e) = subst (Plain (fsync p o k)) (sym e) (record { results = refl; own = refl })
 
--- the sending call is accepted, or refused with 2
-due-either : (k : ℕ) (x : Model) → ((send_due_of k x).returned ≡ 0 → ⊥) → ((send_due_of k x).returned ≡ Returned.damaged → ⊥) → ⊥
-unfolding send_due_of
-due-either k x n d = go (ltb (applying (due_at k x.log) x.server) (length (due_at k x.log))) n d
-  where
-    go : (b : Bool)
-        → ((cond b (answer Returned.damaged (applying (due_at k x.log) x.server ∷ []) []) (answer Returned.accepted (length (due_at k x.log) ∷ []) [])).returned ≡ 0 → ⊥)
-        → ((cond b (answer Returned.damaged (applying (due_at k x.log) x.server ∷ []) []) (answer Returned.accepted (length (due_at k x.log) ∷ []) [])).returned ≡ Returned.damaged → ⊥) → ⊥
-    go true n d = d refl
-    go false n d = n refl
-
 module _ (g : Geometry) (x : Model) where
   plain-changed : (c : Call) (p : ℕ) (rows : List Row) → ((changed g c p rows x).returned ≡ 0 → ⊥) → Plain c (changed g c p rows x)
   plain-changed c p rows n = plain-unless c _ _ (λ z. absurd (z refl)) n
 
-  -- "The other results of a refusal are 0, and no buffer changes": of every refusal but fsync's 17 and 2, and the sending call's 2
+  -- "The other results of a refusal are 0, and no buffer changes": of every refusal but fsync's 17 and 2
   pub refused-plain : (c : Call) → ((answer_of g c x).returned ≡ 0 → ⊥) → ((answer_of g c x).returned ≡ Returned.link_lost → ⊥)
-      → ((answer_of g c x).returned ≡ Returned.damaged → ((p o k : ℕ) → c ≡ fsync p o k → ⊥) × ((k : ℕ) → c ≡ send_due k → ⊥)) → Plain c (answer_of g c x)
-  unfolding answer_of push_of take_of renew_of load_rows_of
+      → ((answer_of g c x).returned ≡ Returned.damaged → (p o k : ℕ) → c ≡ fsync p o k → ⊥) → Plain c (answer_of g c x)
+  unfolding answer_of push_of take_of renew_of
   refused-plain (question p q) n l d = plain-unless (question p q) _ _ (plain-question p x.view q) n
   refused-plain (change i c) n l d = plain-changed (change i c) i.program (change_rows g x.view c) n
   refused-plain (link (Class.push q)) n l d = plain-unless (push q) _ _ (λ z. record { results = refl; own = refl }) n
-  refused-plain (link (Class.fsync p o k)) n l d = plain_sync p o k x n l (λ z. (d z).0 p o k refl)
+  refused-plain (link (Class.fsync p o k)) n l d = plain_sync p o k x n l (λ z. d z p o k refl)
   refused-plain (link Class.cut) n l d = absurd (n refl)
-  refused-plain (link (Class.send_due k)) n l d = absurd (due-either k x n (λ z. (d z).1 k refl))
   refused-plain (recovery p (Class.take s)) n l d = plain-unless (Call.take p s) _ _ (λ z. absurd (z refl)) n
   refused-plain (recovery p Class.renew) n l d = plain-unless (Call.renew p) _ _ (λ z. absurd (z refl)) n
-  refused-plain (load_rows s) n l d = plain-unless (load_rows s) _ _ (λ z. absurd (z refl)) n
 
--- "Damaged: .. an operation being sent does not apply to the server": only a push, an fsync and the sending call say so, of well-formed
--- buffers
+-- "Damaged: .. an operation being sent does not apply to the server": only a push and an fsync say so, of well-formed buffers
 pub data Damaged (x : Model) : Call → Type 0 where
   by_push : (q : ℕ) (r : Record) → waiting_at q x.log ≡ some r → any (λ a. before a r) (waiting_of x.log.slots) ≡ false → applies x.server r.operation ≡ false → Damaged x (push q)
   by_sync : (p o k : ℕ)
       → applying (ListN.take k (needed o (waiting_of x.log.slots))) x.server < length (ListN.take k (needed o (waiting_of x.log.slots))) → Damaged x (fsync p o k)
-  by_due : (k : ℕ) → applying (due_at k x.log) x.server < length (due_at k x.log) → Damaged x (send_due k)
 
 reached-sound : (r : Reached) → reached_number r ≡ Returned.damaged → ⊥
 reached-sound (Found o) e = omega arith
@@ -232,16 +217,6 @@ fsync-damaged p o k x e = go (synced-is k need x.server)
     go (partly lt all is) = let z : ◌≡◌ {A = ℕ} 17 2 = same_number ((sync-damaged p o k x e).answer ∙ is) e in absurd (omega arith)
     go (broken lt is) = by_sync p o k lt
 
-due-damaged : (k : ℕ) (x : Model) → (send_due_of k x).returned ≡ Returned.damaged → Damaged x (send_due k)
-unfolding send_due_of
-due-damaged k x e = go (ltb (applying (due_at k x.log) x.server) (length (due_at k x.log))) refl e
-  where
-    go : (b : Bool) → ltb (applying (due_at k x.log) x.server) (length (due_at k x.log)) ≡ b
-        → (cond b (answer Returned.damaged (applying (due_at k x.log) x.server ∷ []) []) (answer Returned.accepted (length (due_at k x.log) ∷ []) [])).returned ≡ Returned.damaged
-        → Damaged x (send_due k)
-    go true h f = by_due k (ltb-true _ _ h)
-    go false h f = absurd (omega arith)
-
 module _ (g : Geometry) (x : Model) where
   no_change : {C : Type 0} (c : Call) (p : ℕ) (rows : List Row) → numbered (rows ++ room_rows g c x) ≡ true → lacks Returned.damaged (rows ++ room_rows g c x) ≡ true
       → (changed g c p rows x).returned ≡ Returned.damaged → C
@@ -260,24 +235,22 @@ module _ (g : Geometry) (x : Model) where
   change-table i (Class.forder s) = (refl, refl)
 
   pub damaged-why : (c : Call) → (answer_of g c x).returned ≡ Returned.damaged → Damaged x c
-  unfolding answer_of take_of renew_of load_rows_of
+  unfolding answer_of take_of renew_of
   damaged-why (question p q) e = never-damaged (question p q) (bad_program p ∷ is_marked x.log p ∷ []) _ refl refl (question-sound x.view q) e
   damaged-why (change i c) e = let f = change-table i c in no_change (change i c) i.program (change_rows g x.view c) f.0 f.1 e
   damaged-why (link (Class.push q)) e = push-damaged q x e
   damaged-why (link (Class.fsync p o k)) e = fsync-damaged p o k x e
   damaged-why (link Class.cut) e = absurd (omega arith)
-  damaged-why (link (Class.send_due k)) e = due-damaged k x e
   damaged-why (recovery p (Class.take s)) e = never-damaged (Call.take p s) (bad_program p ∷ row Returned.none (no_loss p x) ∷ row Returned.short_buffer (ltb (length s) 1040) ∷ []) _ refl refl (λ z. omega arith) e
   damaged-why (recovery p Class.renew) e = never-damaged (Call.renew p) (bad_program p ∷ row Returned.losses_left (not (no_loss p x)) ∷ []) _ refl refl (λ z. omega arith) e
-  damaged-why (load_rows s) e = never-damaged (load_rows s) (rows_rows s) _ refl refl (λ z. omega arith) e
 
 -- what an accepted change or forder does and answers: it issues an operation, and perhaps others, and tells the next number
 pub record Changes (g : Geometry) (c : Call) (x : Model) : Type 0 where
-  pub by : Issuer
+  pub program : ℕ
   pub first : Operation
   pub others : List Operation
   pub issued : issues (told_of x) c ≡ first ∷ others
-  pub effects : accepted_effects c (told_of x) ≡ issuing by (issues (told_of x) c)
+  pub effects : accepted_effects c (told_of x) ≡ issuing program (issues (told_of x) c)
   pub results : (answer_of g c x).results ≡ x.log.head.next ∷ []
 
 module _ (g : Geometry) (x : Model) (s : Sound g x) where
@@ -285,15 +258,14 @@ module _ (g : Geometry) (x : Model) (s : Sound g x) where
   told c p rows e = ap (λ (a : Answer). a.results) (accepted-passes c (bad_program p ∷ is_marked x.log p ∷ (rows ++ room_rows g c x)) _ e).1
 
   -- either remove
-  remove-answered : (takes : Entry → Bool) (i : Issuer) (d : ℕ) (n : List ℕ) (c : Call) → answer_of g c x ≡ changed g c i.program (remove_rows takes x.view d n) x
-      → (issues (told_of x) c ≡ removes x.view d n) × (accepted_effects c (told_of x) ≡ issuing i (issues (told_of x) c))
+  remove-answered : (takes : Entry → Bool) (p d : ℕ) (n : List ℕ) (c : Call) → answer_of g c x ≡ changed g c p (remove_rows takes x.view d n) x
+      → (issues (told_of x) c ≡ removes x.view d n) × (accepted_effects c (told_of x) ≡ issuing p (issues (told_of x) c))
       → (answer_of g c x).returned ≡ 0 → Changes g c x
-  remove-answered takes i d n c by does e =
-      let p = i.program in
+  remove-answered takes p d n c by does e =
       let r : (changed g c p (remove_rows takes x.view d n) x).returned ≡ 0 = sym (ap (λ (a : Answer). a.returned) by) ∙ e in
       let f = remove-accepted g x s takes p d n c does.0 r in
       record {
-        by = i;
+        program = p;
         first = Operation.remove f.0 d n;
         others = [];
         issued = does.0 ∙ ap (λ (h : Option ℕ). on_found h (λ o. Operation.remove o d n)) f.1;
@@ -304,15 +276,15 @@ module _ (g : Geometry) (x : Model) (s : Sound g x) where
   pub change-answered : (i : Issuer) (c : Change) → (answer_of g (change i c) x).returned ≡ 0 → Changes g (change i c) x
   unfolding answer_of
   change-answered i (Class.create_file d n o) e =
-      record { by = i; first = Operation.create_file o d n; others = []; issued = refl; effects = refl; results = told (create_file i d n o) i.program (make_rows x.view d n o) e }
+      record { program = i.program; first = Operation.create_file o d n; others = []; issued = refl; effects = refl; results = told (create_file i d n o) i.program (make_rows x.view d n o) e }
   change-answered i (Class.make_directory d n o) e =
-      record { by = i; first = Operation.make_directory o d n; others = []; issued = refl; effects = refl; results = told (make_directory i d n o) i.program (make_rows x.view d n o) e }
-  change-answered i (Class.remove_file d n) e = remove-answered is_file i d n (remove_file i d n) refl (refl, refl) e
-  change-answered i (Class.remove_directory d n) e = remove-answered is_directory i d n (remove_directory i d n) refl (refl, refl) e
+      record { program = i.program; first = Operation.make_directory o d n; others = []; issued = refl; effects = refl; results = told (make_directory i d n o) i.program (make_rows x.view d n o) e }
+  change-answered i (Class.remove_file d n) e = remove-answered is_file i.program d n (remove_file i d n) refl (refl, refl) e
+  change-answered i (Class.remove_directory d n) e = remove-answered is_directory i.program d n (remove_directory i d n) refl (refl, refl) e
   change-answered i (Class.rename d n b k) e =
       let f = rename-accepted g x s i d n b k e in
       record {
-        by = i;
+        program = i.program;
         first = Operation.rename f.0 d b (displaced f.0 (search x.view b k)) n k;
         others = [];
         issued = ap (λ (h : Option ℕ). on_found h (λ o. Operation.rename o d b (displaced o (search x.view b k)) n k)) f.1;
@@ -322,7 +294,7 @@ module _ (g : Geometry) (x : Model) (s : Sound g x) where
   change-answered i (Class.write o f t) e =
       let k = writes-some (length (contents_of (entry_at x.view o))) o f t (write-some g x s i o f t e) in
       record {
-        by = i;
+        program = i.program;
         first = k.0;
         others = k.1;
         issued = k.2;
@@ -330,9 +302,9 @@ module _ (g : Geometry) (x : Model) (s : Sound g x) where
         results = told (write i o f t) i.program (write_rows g.blocks x.view o f t) e;
       }
   change-answered i (Class.set_length o f) e =
-      record { by = i; first = Operation.set_length o f; others = []; issued = refl; effects = refl; results = told (set_length i o f) i.program (length_rows g.blocks x.view o f) e }
+      record { program = i.program; first = Operation.set_length o f; others = []; issued = refl; effects = refl; results = told (set_length i o f) i.program (length_rows g.blocks x.view o f) e }
   change-answered i (Class.forder t) e =
-      record { by = i; first = Operation.forder (objects_of t); others = []; issued = refl; effects = refl; results = told (forder i t) i.program (forder_rows x.view t) e }
+      record { program = i.program; first = Operation.forder (objects_of t); others = []; issued = refl; effects = refl; results = told (forder i t) i.program (forder_rows x.view t) e }
 
 -- an accepted fsync answers how many it needs
 pub sync-answered : (p o k : ℕ) (x : Model) → (fsync_of p o k x).returned ≡ 0 → (fsync_of p o k x).results ≡ length (needed o (waiting_of x.log.slots)) ∷ []

@@ -1,49 +1,38 @@
 -- Every effect that a call has may take place where the call has it: so no list of calls can damage the volumes and the log.
-use Rattle.std.specs.Prelude.{ℕ, ◌/◌, ◌%◌, ◌≤◌, ◌<◌, ◌≡◌, Bool, ◌&&◌, ◌||◌, cond, get_or, leb, ltb}
-use Rattle.std.proofs.Common.{arith, sym, ap, ◌∙◌, subst}
+use Rattle.std.specs.Prelude.{ℕ, ◌≤◌, ◌<◌, ◌≡◌, Bool, cond, length, get_or, leb, ltb}
+use Rattle.std.proofs.Common.{arith, sym, ap, ◌∙◌, subst, ltb-true, ltb-false, leb-true, leb-false, eqb-true}
 use Rattle.std.proofs.Math.Path.{refl}
 use mathlib.Core.List.{List, [], ◌∷◌, ◌++◌}
-use Rattle.std.proofs.Math.Bool.{true, false, not, and-eq-true_iff, or-true}
-use Rattle.std.proofs.lemmas.Bool.{false≢true}
+use Rattle.std.proofs.Math.Bool.{true, false}
+use Rattle.std.proofs.lemmas.Bool.{false≢true, not-false}
 use Rattle.std.proofs.Math.Option.{Option, none, some}
-use Rattle.std.proofs.Math.ListN.{length}
 use Rattle.std.proofs.Math.ListN
 use Rattle.std.proofs.Math.Dec.{eqb}
-use borrow.Author.Tests.{ltb-true, ltb-false, leb-true, leb-false, eqb-true, not-false}
 use Rattle.returned.specs.Returned
 use Rattle.record.specs.Operation.{Operation, Record}
 use Rattle.volume_entry.specs.Entry.{is_file, is_directory}
 use Rattle.volume_tree.specs.Volume.{Volume, search}
 use Rattle.volume_apply.specs.Apply.{applies}
-use Rattle.rows.specs.Stored.{row_bytes, most_rows, rows_in, rows_fit, all_fit_four}
-use Rattle.rows.specs.Due.{time_now}
-use Rattle.rows.specs.Laws.Stored.{rows-length}
-use Rattle.rows.specs.Laws.Due.{now-latest}
-use Rattle.log_rules.specs.Standing.{seen, with_rows, good_rows}
-use Rattle.log_rules.specs.Laws.Standing.{standing-inv, seen-good, rows-good}
-use Rattle.log_rules.specs.Laws.Slot.{formed-inv}
 use Rattle.log_rules.specs.Change.{waiting_of, waiting_at, earliest, is_loss_of}
 use Rattle.log_rules.specs.Laws.Change.{noted-waiting, waiting-in-order}
-use Rattle.log_rules.specs.Laws.Freed.{formed-rising}
-use Rattle.log_rules.specs.Laws.Due.{due_pick, due-picked}
 use Rattle.log_rules.specs.Order.{needed, preceded}
 use Rattle.log_rules.specs.Laws.Order.{direct-decides}
 use Rattle.session.specs.Class
-use Rattle.session.specs.Call.{Geometry, Issuer, Call, question, change, link, recovery, load_rows, remove_file, remove_directory, push, fsync, Answer, answer}
+use Rattle.session.specs.Call.{Geometry, Call, question, change, link, recovery, remove_file, remove_directory, push, fsync, Answer, answer}
 use Rattle.session.specs.Call
 use Rattle.session.specs.Refusal.{Row, row}
 use Rattle.session.specs.Model.{Model, unless, bad_program, told_of}
 use Rattle.session.specs.Issue.{on_found, displaced, removes}
 use Rattle.log_rules.specs.Sends.{applying}
-use Rattle.session.specs.Send.{of_record, push_of, sync_answer, sync_rows, fsync_of, due_at, send_due_of, rows_rows, load_rows_of, no_loss, take_of, renew_of}
-use Rattle.session.specs.Effect.{note, discard, stand, perform, sends, issuing, accepted_effects, broken_sync, broken_due, refused_effects, effects_of}
+use Rattle.session.specs.Send.{of_record, push_of, sync_answer, sync_rows, fsync_of, no_loss, take_of, renew_of}
+use Rattle.session.specs.Effect.{note, discard, perform, sends, issuing, accepted_effects, broken_sync, refused_effects, effects_of}
 use Rattle.session.specs.Step.{answer_of, effects_in, leaves_of}
 use Rattle.session.specs.Laws.Refusal.{numbered, passed, accepted-passes, own-number, same_number}
-use Rattle.session.specs.Laws.Possible.{Sound, Sendable, Possible, AllPossible}
+use Rattle.session.specs.Laws.Possible.{Sound, Sendable, AllPossible}
 use Rattle.session.specs.Laws.Issuing.{Issuing, issuing-possible}
 use Rattle.session.specs.Laws.Edit.{create-accepted, make-accepted, remove-accepted, rename-accepted, write-accepted, length-accepted, forder-accepted}
 use Rattle.session.specs.Laws.Effect.{all_sound, all_append, perform-sound}
-use Rattle.session.specs.Laws.Ready.{Ready, closure-ready, needed-ready, ready-take, applying-most, applying-take, applying-first, sends-possible}
+use Rattle.session.specs.Laws.Ready.{Ready, needed-ready, ready-take, applying-take, applying-first, sends-possible}
 
 -- the program of a table that lets pass
 program-good : (c : Call) (p : ℕ) (rows : List Row) (a : Answer) → numbered rows ≡ true → (unless c (bad_program p ∷ rows) a).returned ≡ 0 → p < 32
@@ -199,99 +188,36 @@ module _ (g : Geometry) where
       lost false true e f = stop (eqb-true _ _ f)
       lost false false e f = tt
 
-  -- the time is seen, which changes nothing that sends ask
-  after-seen : (clock : ℕ) (x : Model) (l : List Record) → Sound g x → Ready (waiting_of x.log.slots) l → length l ≤ applying l x.server
-      → AllPossible g x (stand (seen clock x.log.head.standing) ∷ sends l)
-  unfolding perform
-  after-seen clock x l s d n =
-      let t = x.log.head.standing in
-      let good = (formed-inv g.objects g.blocks g.capacity x.log s.log).head.stands in
-      let small = (standing-inv t good).in_four in
-      let h : Possible g x (stand (seen clock t)) = (seen-good clock t good, now-latest clock t.latest (omega arith)) in
-      (h, sends-possible g l (perform (stand (seen clock t)) x) (perform-sound g x (stand (seen clock t)) s h) d n)
-
-  due-ready : (clock : ℕ) (x : Model) → Sound g x → Ready (waiting_of x.log.slots) (due_at clock x.log)
-  due-ready clock x s =
-      let now = time_now clock x.log.head.standing.latest in
-      let w = waiting_of x.log.slots in
-      subst (Ready w) (sym (due-picked now x.log.slots (formed-rising g.objects g.blocks g.capacity x.log s.log)))
-      (closure-ready (due_pick now x.log.slots) w (waiting-in-order g.objects g.blocks g.capacity x.log s.log))
-
-  -- the sending call
-  due-whole : (clock : ℕ) (x : Model) → Sound g x → (send_due_of clock x).returned ≡ 0 → AllPossible g x (stand (seen clock x.log.head.standing) ∷ sends (due_at clock x.log))
-  unfolding send_due_of
-  due-whole clock x s e = go (ltb (applying need x.server) (length need)) refl e
-    where
-      need : List Record
-      need = due_at clock x.log
-
-      go : (b : Bool) → ltb (applying need x.server) (length need) ≡ b
-          → (cond b (answer Returned.damaged (applying need x.server ∷ []) []) (answer Returned.accepted (length need ∷ []) [])).returned ≡ 0
-          → AllPossible g x (stand (seen clock x.log.head.standing) ∷ sends need)
-      go true h k = absurd (omega arith)
-      go false h k = after-seen clock x need s (due-ready clock x s) (ltb-false _ _ h)
-
-  due-broken : (clock : ℕ) (x : Model) → Sound g x → AllPossible g x (broken_due clock (send_due_of clock x) (told_of x))
-  unfolding send_due_of
-  due-broken clock x s = go (ltb (applying need x.server) (length need)) refl
-    where
-      need : List Record
-      need = due_at clock x.log
-
-      go : (b : Bool) → ltb (applying need x.server) (length need) ≡ b
-          → AllPossible g x (broken_due clock (cond b (answer Returned.damaged (applying need x.server ∷ []) []) (answer Returned.accepted (length need ∷ []) [])) (told_of x))
-      go true h =
-          let j = applying need x.server in
-          let le : j ≤ length need = applying-most need x.server in
-          after-seen clock x (ListN.take j need) s (ready-take (waiting_of x.log.slots) need j (due-ready clock x s)) (applying-first j need x.server (omega arith))
-      go false h = tt
-
   -- the operations of an accepted change
-  issued-possible : (by : Issuer) (x : Model) (os is : List Operation) → is ≡ os → Issuing g x by.program os → AllPossible g x (issuing by is)
-  issued-possible by x os is e i = subst (λ (l : List Operation). AllPossible g x (issuing by l)) (sym e) (issuing-possible g by os x i)
+  issued-possible : (p : ℕ) (x : Model) (os is : List Operation) → is ≡ os → Issuing g x p os → AllPossible g x (issuing p is)
+  issued-possible p x os is e i = subst (λ (l : List Operation). AllPossible g x (issuing p l)) (sym e) (issuing-possible g p os x i)
 
   -- either remove, of what it found
-  remove-possible : (by : Issuer) (d : ℕ) (n : List ℕ) (x : Model) → (o : ℕ) × (search x.view d n ≡ some o) × Issuing g x by.program (Operation.remove o d n ∷ [])
-      → AllPossible g x (issuing by (removes x.view d n))
-  remove-possible by d n x a = issued-possible by x _ _ (ap (λ (f : Option ℕ). on_found f (λ o. Operation.remove o d n)) a.1) a.2
-
-  -- rows that loading accepts are as they should be
-  rows-loaded : (s : List ℕ) (x : Model) → Sound g x → (load_rows_of s).returned ≡ 0 → Possible g x (stand (with_rows (rows_in s) x.log.head.standing))
-  unfolding load_rows_of
-  rows-loaded s x h e =
-      let t = x.log.head.standing in
-      let ok = passed (rows_rows s) refl (accepted-passes (load_rows s) (rows_rows s) _ e).0 in
-      let lent = (and-eq-true_iff (rows_fit s) (all_fit_four (rows_in s))).0 (not-false _ ok.0) in
-      let most : length s / row_bytes ≤ most_rows = leb-true (length s / row_bytes) most_rows ((and-eq-true_iff (eqb (length s % row_bytes) 0) (leb (length s / row_bytes) most_rows)).0 lent.0).1 in
-      let many = rows-length (length s / row_bytes) s in
-      let good = (formed-inv g.objects g.blocks g.capacity x.log h.log).head.stands in
-      let rows : good_rows (rows_in s) ≡ true =
-      (λ i. eqb (length (rows_in s)) 0 || (not (ok.1.0 i) && (not (ok.1.1.0 i) && not (ok.1.1.1.0 i)))) ∙ or-true (eqb (length (rows_in s)) 0) in
-      (rows-good (rows_in s) t (omega arith) lent.1 rows good, omega arith)
+  remove-possible : (p d : ℕ) (n : List ℕ) (x : Model) → (o : ℕ) × (search x.view d n ≡ some o) × Issuing g x p (Operation.remove o d n ∷ [])
+      → AllPossible g x (issuing p (removes x.view d n))
+  remove-possible p d n x a = issued-possible p x _ _ (ap (λ (f : Option ℕ). on_found f (λ o. Operation.remove o d n)) a.1) a.2
 
   -- an accepted call
   accepted-possible : (c : Call) (x : Model) → Sound g x → (answer_of g c x).returned ≡ 0 → AllPossible g x (accepted_effects c (told_of x))
   unfolding answer_of renew_of
   accepted-possible (question p q) x h e = (program-good (question p q) p _ _ refl e, tt)
-  accepted-possible (change i (Class.create_file d n o)) x h e = issued-possible i x _ _ refl (create-accepted g x h i d n o e)
-  accepted-possible (change i (Class.make_directory d n o)) x h e = issued-possible i x _ _ refl (make-accepted g x h i d n o e)
-  accepted-possible (change i (Class.remove_file d n)) x h e = remove-possible i d n x (remove-accepted g x h is_file i.program d n (remove_file i d n) refl e)
-  accepted-possible (change i (Class.remove_directory d n)) x h e = remove-possible i d n x (remove-accepted g x h is_directory i.program d n (remove_directory i d n) refl e)
+  accepted-possible (change i (Class.create_file d n o)) x h e = issued-possible i.program x _ _ refl (create-accepted g x h i d n o e)
+  accepted-possible (change i (Class.make_directory d n o)) x h e = issued-possible i.program x _ _ refl (make-accepted g x h i d n o e)
+  accepted-possible (change i (Class.remove_file d n)) x h e = remove-possible i.program d n x (remove-accepted g x h is_file i.program d n (remove_file i d n) refl e)
+  accepted-possible (change i (Class.remove_directory d n)) x h e = remove-possible i.program d n x (remove-accepted g x h is_directory i.program d n (remove_directory i d n) refl e)
   accepted-possible (change i (Class.rename d n b k)) x h e =
       let a = rename-accepted g x h i d n b k e in
-      issued-possible i x _ _ (ap (λ (f : Option ℕ). on_found f (λ o. Operation.rename o d b (displaced o (search x.view b k)) n k)) a.1) a.2
-  accepted-possible (change i (Class.write o f s)) x h e = issued-possible i x _ _ refl (write-accepted g x h i o f s e)
-  accepted-possible (change i (Class.set_length o f)) x h e = issued-possible i x _ _ refl (length-accepted g x h i o f e)
-  accepted-possible (change i (Class.forder s)) x h e = issued-possible i x _ _ refl (forder-accepted g x h i s e)
+      issued-possible i.program x _ _ (ap (λ (f : Option ℕ). on_found f (λ o. Operation.rename o d b (displaced o (search x.view b k)) n k)) a.1) a.2
+  accepted-possible (change i (Class.write o f s)) x h e = issued-possible i.program x _ _ refl (write-accepted g x h i o f s e)
+  accepted-possible (change i (Class.set_length o f)) x h e = issued-possible i.program x _ _ refl (length-accepted g x h i o f e)
+  accepted-possible (change i (Class.forder s)) x h e = issued-possible i.program x _ _ refl (forder-accepted g x h i s e)
   accepted-possible (link (Class.push q)) x h e = (push-accepted q x e, tt)
   accepted-possible (link (Class.fsync p o k)) x h e = sync-whole p o k x h e
   accepted-possible (link Class.cut) x h e = (tt, tt)
-  accepted-possible (link (Class.send_due c)) x h e = due-whole c x h e
   accepted-possible (recovery p (Class.take s)) x h e = (take-accepted p s x e, tt)
   accepted-possible (recovery p Class.renew) x h e = (tt, tt)
-  accepted-possible (load_rows s) x h e = (rows-loaded s x h e, tt)
 
-  -- a refused one: only fsync and the sending call have effects
+  -- a refused one: only fsync has effects
   refused-possible : (c : Call) (x : Model) → Sound g x → AllPossible g x (refused_effects c (answer_of g c x) (told_of x))
   unfolding answer_of
   refused-possible (question p q) x h = tt
@@ -299,9 +225,7 @@ module _ (g : Geometry) where
   refused-possible (link (Class.push q)) x h = tt
   refused-possible (link (Class.fsync p o k)) x h = sync-broken p o k x h
   refused-possible (link Class.cut) x h = tt
-  refused-possible (link (Class.send_due c)) x h = due-broken c x h
   refused-possible (recovery p l) x h = tt
-  refused-possible (load_rows s) x h = tt
 
   -- every effect of every call, accepted or refused, may take place
   pub call-possible : (c : Call) (x : Model) → Sound g x → AllPossible g x (effects_in g c x)

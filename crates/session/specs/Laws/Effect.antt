@@ -3,15 +3,13 @@ use Rattle.std.specs.Prelude.{ℕ, ◌≡◌, List, [], ◌∷◌, ◌++◌, tru
 use Rattle.std.proofs.Common.{sym, ap, subst}
 use Rattle.std.proofs.Math.Option.{Option, some}
 use Rattle.record.specs.Operation.{Operation, Record, record_of}
-use Rattle.volume_apply.specs.Apply.{apply}
 use Rattle.volume_apply.specs.Laws.Apply.{apply-good}
-use Rattle.log_rules.specs.Due.{file_length}
 use Rattle.log_rules.specs.Laws.Slot.{formed-inv}
 use Rattle.log_rules.specs.Change
-use Rattle.log_rules.specs.Laws.Change.{note-good, issue-good, sent-good, discard-good, taken-good, renewed-good, standing-formed, waiting-good, at-waiting}
-use Rattle.session.specs.Call.{Geometry, Issuer}
+use Rattle.log_rules.specs.Laws.Change.{note-good, issue-good, sent-good, discard-good, taken-good, renewed-good, waiting-good, at-waiting}
+use Rattle.session.specs.Call.{Geometry}
 use Rattle.session.specs.Model.{Model, agreeing}
-use Rattle.session.specs.Effect.{Effect, note, issue, send, discard, take, renew, stand, sent_found, perform, perform_all}
+use Rattle.session.specs.Effect.{Effect, note, issue, send, discard, take, renew, sent_found, perform, perform_all}
 use Rattle.session.specs.Laws.Issue.{record-good}
 use Rattle.session.specs.Laws.Possible.{Sound, Issuable, Sendable, Possible, AllPossible}
 use Rattle.session.specs.Laws.Agree.{effect-agrees}
@@ -21,19 +19,18 @@ pub send-is : (q : ℕ) (x : Model) (r : Record) → Change.waiting_at q x.log �
 unfolding perform
 send-is q x r e = ap (λ (f : Option Record). sent_found f x) e
 
-issue-sound : (g : Geometry) (x : Model) (by : Issuer) (o : Operation) → Sound g x → Issuable g x by.program o → Sound g (perform (issue by o) x)
+issue-sound : (g : Geometry) (x : Model) (p : ℕ) (o : Operation) → Sound g x → Issuable g x p o → Sound g (perform (issue p o) x)
 unfolding perform
-issue-sound g x by o s i =
+issue-sound g x p o s i =
     let q = x.log.head.next in
-    let p = by.program in
     let low = (formed-inv g.objects g.blocks g.capacity x.log s.log).head.from_one in
     let good = record-good q p o low i.number i.program i.recordable.good in
     record {
       range = s.range;
       server = s.server;
       view = apply-good g.objects g.blocks x.view (record_of q p o) s.view good (i.recordable.within q p) i.fit;
-      log = issue-good g.objects g.blocks g.capacity p by.clock (file_length (apply x.view o) o) o x.log i.program s.log i.room i.number good (i.recordable.within q p);
-      agree = effect-agrees g x (issue by o) i s.agree;
+      log = issue-good g.objects g.blocks g.capacity p o x.log i.program s.log i.room i.number good (i.recordable.within q p);
+      agree = effect-agrees g x (issue p o) i s.agree;
     }
 
 send-sound : (g : Geometry) (x : Model) (q : ℕ) (r : Record) → Sound g x → Sendable x q r → Sound g (perform (send q) x)
@@ -58,7 +55,7 @@ perform-sound g x (note p ops) s h =
       log = note-good g.objects g.blocks g.capacity p ops x.log h s.log;
       agree = effect-agrees g x (note p ops) h s.agree;
     }
-perform-sound g x (issue by o) s h = issue-sound g x by o s h
+perform-sound g x (issue p o) s h = issue-sound g x p o s h
 perform-sound g x (send q) s h = send-sound g x q h.0 s h.1
 perform-sound g x discard s h =
     record {
@@ -83,14 +80,6 @@ perform-sound g x (renew p) s h =
       view = s.view;
       log = renewed-good g.objects g.blocks g.capacity p x.log s.log;
       agree = effect-agrees g x (renew p) h s.agree;
-    }
-perform-sound g x (stand t) s h =
-    record {
-      range = s.range;
-      server = s.server;
-      view = s.view;
-      log = standing-formed g.objects g.blocks g.capacity t x.log h.0 s.log;
-      agree = effect-agrees g x (stand t) h s.agree;
     }
 
 pub all_sound : (g : Geometry) (es : List Effect) (x : Model) → Sound g x → AllPossible g x es → Sound g (perform_all es x)

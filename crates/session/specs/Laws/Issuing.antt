@@ -4,11 +4,9 @@ use Rattle.std.proofs.Common.{arith, sym, subst, length-append}
 use Rattle.record.specs.Operation.{Operation, operands}
 use Rattle.volume_tree.specs.Volume.{Volume}
 use Rattle.volume_apply.specs.Apply.{applies, apply}
-use Rattle.log_rules.specs.Standing.{seen}
-use Rattle.log_rules.specs.Due.{file_length}
 use Rattle.log_rules.specs.Change
 use Rattle.log_rules.specs.Laws.Change.{noted-length}
-use Rattle.session.specs.Call.{Geometry, Issuer}
+use Rattle.session.specs.Call.{Geometry}
 use Rattle.session.specs.Model.{Model}
 use Rattle.session.specs.Effect.{note, issue, perform, issuing}
 use Rattle.session.specs.Laws.Issue.{Recordable}
@@ -28,16 +26,13 @@ pub record Issuing (g : Geometry) (x : Model) (p : ℕ) (os : List Operation) : 
   pub number : x.log.head.next + length os ≤ 4294967295
 
 -- what a note and an issue leave of the view, the number of slots and the next number
-note-issue : (by : Issuer) (o : Operation) (x : Model)
-    → ((perform (issue by o) (perform (note by.program (operands o)) x)).view ≡ apply x.view o)
-    × (length (perform (issue by o) (perform (note by.program (operands o)) x)).log.slots ≡ suc (length x.log.slots))
-    × ((perform (issue by o) (perform (note by.program (operands o)) x)).log.head.next ≡ suc x.log.head.next)
+note-issue : (p : ℕ) (o : Operation) (x : Model)
+    → ((perform (issue p o) (perform (note p (operands o)) x)).view ≡ apply x.view o)
+    × (length (perform (issue p o) (perform (note p (operands o)) x)).log.slots ≡ suc (length x.log.slots))
+    × ((perform (issue p o) (perform (note p (operands o)) x)).log.head.next ≡ suc x.log.head.next)
 unfolding perform Change.issue
-note-issue by o x =
-    let p = by.program in
-    let t = seen by.clock x.log.head.standing in
-    let a = length-append (Change.note p (operands o) x.log).slots
-    (Change.waiting_slot (record { sequence = x.log.head.next; program = p; operation = o }) (Change.due_now t (file_length (apply x.view o) o)) ∷ []) in
+note-issue p o x =
+    let a = length-append (Change.note p (operands o) x.log).slots (Change.waiting_slot (record { sequence = x.log.head.next; program = p; operation = o }) ∷ []) in
     let b = noted-length p (operands o) x.log.slots in
     (refl, omega arith, omega arith)
 
@@ -51,10 +46,9 @@ note-issuable g p o os x i =
     record { program = i.program; fit = i.fit.0; recordable = i.fit.1; room = omega arith; number = omega arith }
 
 -- after the first, what is left of them has what it needs
-pub issuing-rest : (g : Geometry) (by : Issuer) (o : Operation) (os : List Operation) (x : Model) → Issuing g x by.program (o ∷ os)
-    → Issuing g (perform (issue by o) (perform (note by.program (operands o)) x)) by.program os
-issuing-rest g by o os x i =
-    let n = note-issue by o x in
+pub issuing-rest : (g : Geometry) (p : ℕ) (o : Operation) (os : List Operation) (x : Model) → Issuing g x p (o ∷ os) → Issuing g (perform (issue p o) (perform (note p (operands o)) x)) p os
+issuing-rest g p o os x i =
+    let n = note-issue p o x in
     let l = n.1 in
     let k = n.2 in
     let room = i.room in
@@ -62,16 +56,13 @@ issuing-rest g by o os x i =
     record { program = i.program; fit = subst (λ (v : Volume). FitInTurn g.objects g.blocks v os) (sym n.0) i.fit.2; room = omega arith; number = omega arith }
 
 -- what the first leaves is sound
-pub issued-sound : (g : Geometry) (by : Issuer) (o : Operation) (os : List Operation) (x : Model) → Sound g x → Issuing g x by.program (o ∷ os)
-    → Sound g (perform (issue by o) (perform (note by.program (operands o)) x))
-issued-sound g by o os x s i =
-    let p = by.program in
-    perform-sound g (perform (note p (operands o)) x) (issue by o) (perform-sound g x (note p (operands o)) s i.program) (note-issuable g p o os x i)
+pub issued-sound : (g : Geometry) (p : ℕ) (o : Operation) (os : List Operation) (x : Model) → Sound g x → Issuing g x p (o ∷ os)
+    → Sound g (perform (issue p o) (perform (note p (operands o)) x))
+issued-sound g p o os x s i =
+    perform-sound g (perform (note p (operands o)) x) (issue p o) (perform-sound g x (note p (operands o)) s i.program) (note-issuable g p o os x i)
 
-pub issuing-possible : (g : Geometry) (by : Issuer) (os : List Operation) (x : Model) → Issuing g x by.program os → AllPossible g x (issuing by os)
+pub issuing-possible : (g : Geometry) (p : ℕ) (os : List Operation) (x : Model) → Issuing g x p os → AllPossible g x (issuing p os)
 unfolding issuing
-issuing-possible g by [] x i = tt
-issuing-possible g by (o ∷ os) x i = (
-  i.program,
-  (note-issuable g by.program o os x i, issuing-possible g by os (perform (issue by o) (perform (note by.program (operands o)) x)) (issuing-rest g by o os x i)),
-)
+issuing-possible g p [] x i = tt
+issuing-possible g p (o ∷ os) x i =
+    (i.program, (note-issuable g p o os x i, issuing-possible g p os (perform (issue p o) (perform (note p (operands o)) x)) (issuing-rest g p o os x i)))

@@ -1,16 +1,15 @@
 -- When an effect may take place: what holds of the volumes and the log where a call has it.
-use Rattle.std.specs.Prelude.{ℕ, ◌≤◌, ◌<◌, ◌≡◌, List, [], ◌∷◌, true, false, length}
+use Rattle.std.specs.Prelude.{ℕ, ◌<◌, ◌≡◌, List, [], ◌∷◌, true, false, length}
 use Rattle.std.proofs.Math.Option.{some}
 use Rattle.record.specs.Operation.{Operation, Record}
 use Rattle.volume_tree.specs.Form.{well_formed}
 use Rattle.volume_apply.specs.Apply.{applies}
-use Rattle.log_rules.specs.Standing.{good_standing}
 use Rattle.log_rules.specs.Slot.{well_formed_log}
 use Rattle.log_rules.specs.Order.{any, before}
 use Rattle.log_rules.specs.Change.{waiting_of, waiting_at, earliest, is_loss_of}
 use Rattle.session.specs.Call.{Geometry, in_range}
 use Rattle.session.specs.Model.{Model, agreeing}
-use Rattle.session.specs.Effect.{Effect, note, issue, send, discard, take, renew, stand, perform}
+use Rattle.session.specs.Effect.{Effect, note, issue, send, discard, take, renew, perform}
 use Rattle.session.specs.Laws.Issue.{Recordable}
 
 -- a geometry in range, and a view, a server volume and a log that are well formed for it and agree
@@ -37,12 +36,11 @@ pub record Sendable (x : Model) (q : ℕ) (r : Record) : Type 0 where
 
 abbrev pub Possible : Geometry → Model → Effect → Type 0
 Possible g x (note p ops) = p < 32
-Possible g x (issue i o) = Issuable g x i.program o
+Possible g x (issue p o) = Issuable g x p o
 Possible g x (send q) = (r : Record) × Sendable x q r
 Possible g x discard = Unit {0}
 Possible g x (take p) = (r : Record) × (earliest (is_loss_of p) x.log.slots ≡ some r)
 Possible g x (renew p) = Unit {0}
-Possible g x (stand t) = (good_standing t ≡ true) × (x.log.head.standing.latest ≤ t.latest)
 
 -- each of a list where those before it have taken place
 abbrev pub AllPossible : Geometry → Model → List Effect → Type 0

@@ -1,6 +1,6 @@
 -- What the entries leave in the buffers: bytes of the right form, for every geometry in range and every call.
-use Rattle.std.specs.Prelude.{ℕ, ◌≡◌, refl, List, [], ◌∷◌, Bool, true, false, not, ◌&&◌, cond}
-use Rattle.std.proofs.Common.{arith, sym, ap, ◌∙◌, subst, eq-eqb}
+use Rattle.std.specs.Prelude.{ℕ, ◌≡◌, refl, [], Bool, true, false, ◌&&◌, cond}
+use Rattle.std.proofs.Common.{arith, sym, ap, subst, eq-eqb}
 use Rattle.std.proofs.Math.Option.{Option, none, some}
 use Rattle.buffer.specs.Decoded.{is_some}
 use Rattle.volume_tree.specs.Volume.{Volume}
@@ -10,17 +10,9 @@ use Rattle.log_rules.specs.Slot.{Log, empty_log}
 use Rattle.log_rules.specs.Laws.Slot.{empty-good}
 use Rattle.log_rules.specs.Stored.{encode_log}
 use Rattle.log_rules.specs.Laws.Stored as LogLaws
-use Rattle.returned.specs.Returned
-use Rattle.rows.specs.Rows.{has_gap, has_overlap, has_bad_seconds}
-use Rattle.rows.specs.Stored.{rows_in, rows_lent}
-use Rattle.session.specs.Call.{Geometry, Buffers, Call, question, change, link, recovery, load_rows, Answer, refusal, in_range, server_fits, lengths_fit, argument_fits}
-use Rattle.session.specs.Refusal.{row}
-use Rattle.session.specs.Model.{Model, mounted_model, agreeing, told_of}
-use Rattle.session.specs.Send.{rows_rows, load_rows_of}
-use Rattle.session.specs.Effect.{perform_all, effects_of}
-use Rattle.session.specs.Step.{Result, Stores, answer_of, leaves_of, encode_model, join_model, decode_model, turned_down, on_model, step, mount}
-use Rattle.session.specs.Code.Table.{first_number}
-use Rattle.session.specs.Laws.Table.{first-lowest, unless-refuses}
+use Rattle.session.specs.Call.{Geometry, Buffers, Call, in_range, server_fits, lengths_fit}
+use Rattle.session.specs.Model.{Model, mounted_model, agreeing}
+use Rattle.session.specs.Step.{Result, Stores, answer_of, leaves_of, encode_model, join_model, decode_model, on_model, step, mount}
 use Rattle.session.specs.Laws.Possible.{Sound}
 use Rattle.session.specs.Laws.Agree.{mounted-agrees}
 use Rattle.session.specs.Laws.Edit.{objects-few, blocks-few}
@@ -93,31 +85,10 @@ pub record Steps (g : Geometry) (c : Call) (s : Buffers) (x : Model) : Type 0 wh
   pub leaves : (step g c s).leaves ≡ encode_model g (leaves_of g c x)
   pub holds : Holds g (step g c s).leaves (leaves_of g c x)
 
--- rows that are not lent as they should be are refused with 1 by the call's own table too, and change nothing
-rows-turned : (g : Geometry) (r : List ℕ) (s : Buffers) (x : Model) → encode_model g x ≡ s → rows_lent r ≡ false → turned_down Returned.wrong_buffer (load_rows r) s ≡ on_model g (load_rows r) s (some x)
-unfolding leaves_of answer_of load_rows_of effects_of perform_all first_number
-rows-turned g r s x h e =
-    let first : first_number (rows_rows r) ≡ 1 = ap (λ (t : Bool). first_number (row Returned.wrong_buffer (not t) ∷ row Returned.gap (has_gap (rows_in r)) ∷ row Returned.overlap (has_overlap (rows_in r)) ∷ row Returned.bad_seconds (has_bad_seconds (rows_in r)) ∷ [])) e in
-    let is : load_rows_of r ≡ refusal 1 (load_rows r) = unless-refuses (load_rows r) (rows_rows r) _ 1 (first-lowest 0 (rows_rows r) refl ∙ first) (λ z. omega arith) in
-    let left : leaves_of g (load_rows r) x ≡ x = ap (λ (a : Answer). perform_all (effects_of (load_rows r) a (told_of x)) x) is in
-    λ i. record { gives = sym is i; leaves = (sym h ∙ ap (encode_model g) (sym left)) i }
-
-argument-asked : (g : Geometry) (c : Call) (s : Buffers) (x : Model) → encode_model g x ≡ s
-    → cond (argument_fits c) (on_model g c s (some x)) (turned_down Returned.wrong_buffer c s) ≡ on_model g c s (some x)
-argument-asked g (question p q) s x h = refl
-argument-asked g (change i d) s x h = refl
-argument-asked g (link l) s x h = refl
-argument-asked g (recovery p l) s x h = refl
-argument-asked g (load_rows r) s x h = go (rows_lent r) refl
-  where
-    go : (t : Bool) → rows_lent r ≡ t → cond t (on_model g (load_rows r) s (some x)) (turned_down Returned.wrong_buffer (load_rows r) s) ≡ on_model g (load_rows r) s (some x)
-    go true e = refl
-    go false e = rows-turned g r s x h e
-
 pub step-holds : (g : Geometry) (c : Call) (s : Buffers) (x : Model) → Holds g s x → Steps g c s x
 unfolding step
 step-holds g c s x h =
-    let is : step g c s ≡ on_model g c s (some x) = rw (h.sound.range, h.fit, h.read) (argument-asked g c s x h.stored) in
+    let is : step g c s ≡ on_model g c s (some x) = rw (h.sound.range, h.fit, h.read) in
     record {
       gives = ap (λ (y : Result). y.gives) is;
       leaves = ap (λ (y : Result). y.leaves) is;
