@@ -1,5 +1,7 @@
 // Names (document 01, "Names and paths"): the permitted bytes, the text of a name, and the same name. Nothing is ever cut: a text
 // that is too long is refused whole.
+#![tactic(auto)]
+
 ghost use Rattle.std.specs.Prelude.{◌≡◌};
 ghost use Rattle.names.specs.Name.{all_permitted, is_dots, name_text_of, lower_case, same_name};
 

@@ -1,5 +1,7 @@
 // Paths (document 01, "Names and paths"): the text of a path, and the path splitter. Nothing is ever cut: a text that is too long
 // is refused whole.
+#![tactic(auto)]
+
 ghost use Rattle.std.specs.Prelude.{◌≡◌, ◌-◌, ◌≤◌, length, take, drop};
 ghost use Rattle.paths.specs.Path.{path_text_of, up_to_slash, component_at};
 

@@ -3,7 +3,7 @@
 ghost use Rattle.std.specs.Prelude.{◌≡◌};
 ghost use Rattle.record.specs.Kind.{code_of, map_of_kind, displacing_map_of, kind_of_code, has_map};
 
-#[derive(Drop)]
+#[derive(Clone, Copy)]
 pub enum Kind {
     CreateFile,
     MakeDirectory,

@@ -1,2 +1,4 @@
 // Loss records (document 01, "Loss record"): the kinds with their codes and maps.
+#![tactic(auto)]
+
 pub mod kind;

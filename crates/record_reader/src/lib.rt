@@ -1,4 +1,6 @@
 // The record reader: a place by value, whose methods yield the field, or the refusal, with the next place.
+#![tactic(auto)]
+
 ghost use Rattle.std.specs.Prelude.{◌≡◌, ◌<◌};
 ghost use Rattle.record_reader.specs.Code.Reader.{number_at, part_at, object_at, offset_at, name_at, block_at, list_at, head_of, head_at, objects_at, names_at, range_at, tied_at, record_at};
 ghost use Rattle.record_reader.specs.Answer.{Exact};
@@ -16,7 +18,7 @@ use record_valid::valid::{differ, in_block, in_limits, stands, valid_head};
 pub mod fit;
 
 // A place in a buffer, counted in bytes from its start.
-#[derive(Drop)]
+#[derive(Clone, Copy)]
 pub struct Place {
     pub at: usize,
 }
@@ -36,7 +38,7 @@ pub enum Stretch {
 }
 
 // The map, sequence, program and kind of a record.
-#[derive(Drop)]
+#[derive(Clone, Copy)]
 pub struct Head {
     pub map: usize,
     pub sequence: usize,
@@ -51,7 +53,7 @@ pub enum Headed {
 }
 
 // Fields 0 to 3; 0 where a field is absent.
-#[derive(Drop)]
+#[derive(Clone, Copy)]
 pub struct Objects {
     pub object: usize,
     pub parent: usize,
@@ -66,7 +68,7 @@ pub enum ObjectFields {
 }
 
 // Fields 4 and 5: where the names lie; 0 and 0 where a field is absent.
-#[derive(Drop)]
+#[derive(Clone, Copy)]
 pub struct Names {
     pub name: Span,
     pub second: Span,
@@ -79,7 +81,7 @@ pub enum NameFields {
 }
 
 // Fields 6 to 8: the offset or new length, and where the data and the list lie; 0 where a field is absent.
-#[derive(Drop)]
+#[derive(Clone, Copy)]
 pub struct Range {
     pub offset: usize,
     pub content: Span,
@@ -93,7 +95,7 @@ pub enum RangeFields {
 }
 
 // A whole record: its head, its fields, and the place after it.
-#[derive(Drop)]
+#[derive(Clone, Copy)]
 pub struct Whole {
     pub head: Head,
     pub objects: Objects,

@@ -1,5 +1,7 @@
 // The record writer: a function for each shape of record, which writes it at the start of a lent buffer and answers its
 // length (document 01, "Loss record").
+#![tactic(auto)]
+
 ghost use Rattle.std.specs.Prelude.{◌≡◌, ◌+◌, ◌%◌, ◌≤◌, length, ltb};
 ghost use Rattle.record.specs.Kind.{map_of_kind};
 ghost use Rattle.buffer.specs.Numeral.{bytes};

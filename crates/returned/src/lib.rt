@@ -1,5 +1,7 @@
 // What a call returns (document 01, "Returned numbers"): the numbers by name, and the shapes in which an entry hands its returned
 // number and its other results to C. The numbers' definitions are in specs/Returned.antt.
+#![tactic(auto)]
+
 ghost use Rattle.std.specs.Prelude.{◌≡◌};
 ghost use Rattle.returned.specs.Returned.{rank_of};
 ghost use Rattle.returned.specs.Shapes.{code, value, status};

@@ -1,3 +1,2 @@
 pub mod Apply
 pub mod Spelling
-pub mod Laws

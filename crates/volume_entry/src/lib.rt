@@ -1,4 +1,5 @@
 // An entry of a volume (document 01, "Geometry and stored form"): its fields, and what is written of it.
+#![tactic(auto)]
 
 // "n entries of 68 + 1,024 × b bytes": where the file length and the data begin in an entry.
 pub const LENGTH_AT: usize = 64;

@@ -1,4 +1,6 @@
 // The form of one entry's bytes (document 01, "Geometry and stored form").
+#![tactic(auto)]
+
 ghost use Rattle.std.specs.Prelude.{◌≡◌, ◌≤◌, length};
 ghost use Rattle.volume_entry.specs.Stored.{entry_bytes, data_at};
 ghost use Rattle.volume_entry_form.specs.Code.Check.{name_formed, data_formed, entry_formed, root_formed};

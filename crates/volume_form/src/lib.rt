@@ -1,4 +1,6 @@
 // The form of a volume (document 01, "Geometry and stored form"), for any bytes.
+#![tactic(auto)]
+
 ghost use Rattle.std.specs.Prelude.{◌≡◌};
 ghost use Rattle.volume_tree.specs.Stored.{formed};
 

@@ -5,7 +5,7 @@ use Rattle.std.proofs.Math.Option.{Option, none, some}
 use Rattle.buffer.specs.Numeral.{Bytes}
 use Rattle.record.specs.Operation.{Record}
 use Rattle.record.specs.Decode.{decode_record}
-use Rattle.record.specs.Laws.Decode.{decode-sound, decode-encoded}
+use Rattle.record.proofs.Laws.Decode.{decode-sound, decode-encoded}
 use Rattle.record_reader.specs.Code.Found.{decode_at}
 use Rattle.record_reader.specs.Laws.Exact.{decode-encode, encode-decode}
 

@@ -9,7 +9,7 @@ use Rattle.std.proofs.Math.Option.{none, some}
 use Rattle.std.proofs.Math.ListN.{length, drop, length-append}
 use borrow.Author.Tests.{leb-true}
 use Rattle.names.specs.Name.{valid_name}
-use Rattle.names.specs.Laws.Name.{valid-length}
+use Rattle.names.proofs.Laws.Name.{valid-length}
 use Rattle.record_reader.specs.declared.Field.TheVariants.{Number}
 use Rattle.record_reader.specs.declared.Stretch.TheVariants.{Part, Bad as NoPart}
 use Rattle.record_reader.specs.declared.Headed.TheVariants.{Is as HeadIs}
@@ -24,10 +24,10 @@ use Rattle.record.specs.Operation.{Operation, create_file, make_directory, remov
 use Rattle.record.specs.Fields.{Parts, parts, stands_in, field, text, pairs, object_fields, name_fields, range_fields, fields, head_bytes, encode, if_stands, between, all_up_to, different, valid_list, valid_objects, valid_names, valid_range, tied, differing, in_block, valid_parts, valid_head, valid, objects_of, number_if}
 use Rattle.record_reader.specs.Code.Reader.{place, number_at, part_at, object_at, offset_at, name_at, block_at, list_at, on_number, part_if, head_of, head_at, objects_at, names_at, range_at, tied_at, record_at}
 use Rattle.record_reader.specs.Laws.Reader.{number-there, part-there}
-use Rattle.record.specs.Laws.Kind.{kind-of-code, code-small, has-its-map, map-small}
-use Rattle.record.specs.Laws.List.{objects-pairs, length_pairs}
+use Rattle.record.proofs.Laws.Kind.{kind-of-code, code-small, has-its-map, map-small}
+use Rattle.record.proofs.Laws.List.{objects-pairs, length_pairs}
 use Rattle.buffer.specs.Laws.Span.{drop-after, take-there, left_there}
-use Rattle.record.specs.Laws.Record.{length-head, offset-small}
+use Rattle.record.proofs.Laws.Record.{length-head, offset-small}
 use Rattle.record_reader.specs.Answer.{span_if, objects_in, names_in, range_in, whole_of}
 
 module _ (s : List ℕ) where

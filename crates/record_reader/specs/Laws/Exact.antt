@@ -14,10 +14,10 @@ use Rattle.record.specs.Operation.{Record, kind_of, map_of}
 use Rattle.record.specs.Fields.{Parts, parted, parts, stands_in, field, text, pairs, object_fields, name_fields, range_fields, fields, head_bytes, encode, if_stands, between, all_up_to, different, valid_list, valid, objects_of, number_if, operation_of}
 use Rattle.buffer.specs.Code.Span.{stretch}
 use Rattle.record_reader.specs.Code.Reader.{record_at}
-use Rattle.record.specs.Laws.List.{objects-pairs}
+use Rattle.record.proofs.Laws.List.{objects-pairs}
 use Rattle.buffer.specs.Laws.Span.{drop-after, take-there}
 use Rattle.record_reader.specs.Laws.SoundRecord.{record-sound}
-use Rattle.record.specs.Laws.Record.{length-head, valid-inv, under, operation-back}
+use Rattle.record.proofs.Laws.Record.{length-head, valid-inv, under, operation-back}
 use Rattle.record_reader.specs.Laws.Complete.{record-complete}
 use Rattle.record_reader.specs.Answer.{span_if, whole_of, Exact, read, refused}
 use Rattle.record_reader.specs.Code.Found.{parts_from, record_from, decoded, decode_at}

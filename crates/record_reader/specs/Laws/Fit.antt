@@ -12,7 +12,7 @@ use Rattle.buffer.specs.Code.Span.{stretch}
 use Rattle.record_reader.specs.Code.Reader.{record_at}
 use Rattle.record_reader.specs.Laws.SoundRecord.{record-sound}
 use Rattle.record_reader.specs.Laws.Exact.{decode-encode, parts-back}
-use Rattle.record.specs.Laws.Record.{under}
+use Rattle.record.proofs.Laws.Record.{under}
 use Rattle.record_reader.specs.Answer.{objects_in, range_in, whole_of}
 use Rattle.record_reader.specs.Code.Found.{decode_at}
 use Rattle.record_reader.specs.Code.Fit.{fits_decoded, objects_below, fits_whole}

@@ -17,7 +17,7 @@ use Rattle.record.specs.Fields.{field, pairs, if_stands, between, valid_list, ob
 use Rattle.record_reader.specs.Code.Reader.{place, number_at, part_at, object_at, offset_at, name_at, block_at, list_at, on_number, part_if}
 use Rattle.buffer.specs.Code.Span.{span, stretch}
 use Rattle.record_reader.specs.Laws.Reader.{number-inv, part-inv}
-use Rattle.record.specs.Laws.List.{count-objects, pairs-objects}
+use Rattle.record.proofs.Laws.List.{count-objects, pairs-objects}
 use Rattle.buffer.specs.Laws.Span.{Spans, spans-none, spans-append, spans-taken}
 use Rattle.record_reader.specs.Answer.{span_if}
 

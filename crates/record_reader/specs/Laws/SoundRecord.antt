@@ -36,8 +36,8 @@ use Rattle.record.specs.Operation.{Record, kind_of, map_of}
 use Rattle.record.specs.Fields.{Parts, parted, parts, stands_in, field, text, pairs, object_fields, name_fields, range_fields, fields, head_bytes, encode, valid_objects, valid_names, valid_range, tied, differing, in_block, valid_parts, valid_head, valid, objects_of, operation_of}
 use Rattle.record_reader.specs.Code.Reader.{number_at, object_at, offset_at, name_at, block_at, list_at, on_number, on_part, head_of, head_at, objects_at, names_at, range_at, tied_at, after_head, after_objects, after_names, after_range, record_at}
 use Rattle.buffer.specs.Code.Span.{span, stretch}
-use Rattle.record.specs.Laws.Kind.{code-inv}
-use Rattle.record.specs.Laws.Record.{length-head}
+use Rattle.record.proofs.Laws.Kind.{code-inv}
+use Rattle.record.proofs.Laws.Record.{length-head}
 use Rattle.buffer.specs.Laws.Span.{Spans, spans-append}
 use Rattle.record_reader.specs.Laws.Sound.{number-sound, object-sound, offset-sound, name-sound, block-sound, list-sound, list-pairs}
 use Rattle.record_reader.specs.Answer.{span_if, objects_in, names_in, range_in, whole_of}

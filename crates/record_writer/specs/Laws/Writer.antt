@@ -8,8 +8,8 @@ use Rattle.buffer.specs.Numeral.{bytes, Bytes}
 use Rattle.buffer.specs.Laws.Numeral.{length-bytes}
 use Rattle.record.specs.Operation.{Record, rename, map_with, record_of}
 use Rattle.record.specs.Fields.{field, text, object_fields, name_fields, range_fields, fields, head_bytes, encode, displaced_if}
-use Rattle.record.specs.Laws.List.{count-objects, pairs-objects}
-use Rattle.record.specs.Laws.Record.{length-head}
+use Rattle.record.proofs.Laws.List.{count-objects, pairs-objects}
+use Rattle.record.proofs.Laws.Record.{length-head}
 use Rattle.buffer.specs.Patch.{patch, Put}
 use Rattle.record_writer.specs.Code.Writer.{Written, displaced_by, entry_record, rename_record, range_record, length_record, forder_record}
 

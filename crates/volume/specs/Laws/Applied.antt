@@ -8,12 +8,12 @@ use Rattle.std.proofs.Math.ListN.{length}
 use borrow.Author.Tests.{leb-true, ltb-true, eqb-true, eqb-false, not-true}
 use Rattle.buffer.specs.Geometry.{block_bytes}
 use Rattle.names.specs.Name.{valid_name}
-use Rattle.names.specs.Laws.Name.{valid-length}
+use Rattle.names.proofs.Laws.Name.{valid-length}
 use Rattle.record.specs.declared.kind.Kind.TheVariants.{Overwrite, Append}
 use Rattle.record.specs.Kind.{map_of_kind}
 use Rattle.record.specs.Operation.{create_file, make_directory, remove, rename, overwrite, append, set_length, Record, map_of, operands}
 use Rattle.record.specs.Fields.{parts, stands_in, if_stands, differing, tied, between, in_block, valid, all_below, fits}
-use Rattle.record.specs.Laws.Record.{valid-inv}
+use Rattle.record.proofs.Laws.Record.{valid-inv}
 use Rattle.volume_entry.specs.Entry.{free, is_used, is_file, is_directory, has_name, contents_of}
 use Rattle.volume_tree.specs.Volume.{Volume, entry_at, search, has_children}
 use Rattle.volume_tree.specs.Form.{well_formed}
@@ -21,7 +21,7 @@ use Rattle.volume_apply.specs.Apply.{is_absent, leads, has_room, stays, yields, 
 use Rattle.volume_tree.specs.Laws.Form.{well-formed-inv}
 use Rattle.volume_tree.specs.Laws.Search.{file-below, named-below}
 use Rattle.volume_entry.specs.Laws.Entry.{unused-free}
-use Rattle.volume_apply.specs.Laws.Apply.{leads-named, displaced-good}
+use Rattle.volume_apply.proofs.Laws.Apply.{leads-named, displaced-good}
 use Rattle.volume_applies.specs.Code.Held.{Displaces}
 
 -- a number with room for a new entry

@@ -16,7 +16,7 @@ use Rattle.volume_apply.specs.Apply.{without_displaced, applies, apply}
 use Rattle.volume_tree.specs.Stored.{encode_volume, read_volume}
 use Rattle.volume_tree.specs.Code.Lent.{Formed, entry_in, with_entry}
 use Rattle.volume_tree.specs.Laws.Lent.{length-read, encoded-formed}
-use Rattle.volume_apply.specs.Laws.Apply.{apply-good}
+use Rattle.volume_apply.proofs.Laws.Apply.{apply-good}
 use Rattle.volume_applies.specs.Code.Held.{operation_in, Fitting, Displaces}
 use Rattle.volume_applies.specs.Laws.Held.{operation-kind}
 use Rattle.volume.specs.Laws.Applied.{file-made, directory-made, removed, renamed-ready, overwrite-ready, append-ready, length-ready}

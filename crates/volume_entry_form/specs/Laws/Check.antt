@@ -11,7 +11,7 @@ use Rattle.std.proofs.lemmas.List.{replicate-append-replicate}
 use borrow.Author.Tests.{le-leb, leb-true, eqb-true}
 use Rattle.std.proofs.Math.Seq.{length-take-le, drop-append_seam}
 use Rattle.names.specs.Name.{valid_name}
-use Rattle.names.specs.Laws.Name.{valid-length}
+use Rattle.names.proofs.Laws.Name.{valid-length}
 use Rattle.buffer.specs.Numeral.{bytes, numeral, Bytes}
 use Rattle.buffer.specs.Laws.Numeral.{length-bytes, numeral-bytes, numeral-below, bytes-part, number-back}
 use Rattle.volume_entry.specs.Entry.{Entry, root, kind_number, name_of, parent_of, contents_of}

@@ -9,7 +9,7 @@ use Rattle.std.proofs.Math.Dec.{leb, eqb}
 use borrow.Author.Tests.{leb-true, leb-false, le-leb, lt-leb, eqb-true, eqb-false, ne_eqb, not-true}
 use Rattle.buffer.specs.Laws.Test.{or-other}
 use Rattle.names.specs.Name.{valid_name, same_name}
-use Rattle.names.specs.Laws.Name.{same-sym}
+use Rattle.names.proofs.Laws.Name.{same-sym}
 use Rattle.buffer.specs.Numeral.{Bytes}
 use Rattle.buffer.specs.Laws.Numeral.{bytes-part}
 use Rattle.volume_entry.specs.Entry.{Entry, root, is_directory, has_name, name_of, parent_of, contents_of}

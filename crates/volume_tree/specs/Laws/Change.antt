@@ -5,7 +5,7 @@ use Rattle.std.proofs.Common.{arith, sym, ap, ◌∙◌, subst, length-set, eqb-
 use Rattle.std.proofs.Math.Bool.{and-eq-true_iff}
 use Rattle.std.proofs.lemmas.Bool.{false≢true, eqb-false}
 use Rattle.names.specs.Name.{valid_name, same_name}
-use Rattle.names.specs.Laws.Name.{same_refl, same-sym, same-trans}
+use Rattle.names.proofs.Laws.Name.{same_refl, same-sym, same-trans}
 use Rattle.volume_entry.specs.Entry.{Entry, root, is_used, is_directory, has_name, name_of, parent_of, contents_of}
 use Rattle.volume_entry.specs.Laws.Entry.{unused-free}
 use Rattle.volume_entry.specs.Laws.Field.{unnamed-fields}

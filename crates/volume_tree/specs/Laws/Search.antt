@@ -8,7 +8,7 @@ use Rattle.std.proofs.Math.Option.{Option, none, some}
 use Rattle.std.proofs.Math.ListN.{get_or-eq_default}
 use Rattle.volume_entry.specs.Laws.Entry.{file-used, directory-used, named-used}
 use Rattle.names.specs.Name.{same_name}
-use Rattle.names.specs.Laws.Name.{same-either}
+use Rattle.names.proofs.Laws.Name.{same-either}
 use Rattle.volume_entry.specs.Entry.{Entry, free, is_used, is_file, is_directory, has_name, name_of, parent_of}
 use Rattle.volume_tree.specs.Volume.{Volume, entry_at, every, lowest, is_child, is_named, search, has_children}
 use Rattle.volume_tree.specs.Laws.Form.{every-inv, every-intro, every-not, lowest-none, lowest-some, none-lowest, some-lowest}

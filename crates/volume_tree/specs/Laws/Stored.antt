@@ -10,7 +10,7 @@ use Rattle.std.proofs.lemmas.List.{length-replicate, get_or-replicate, replicate
 use Rattle.std.proofs.Math.ListN.{get_or-eq_default}
 use Rattle.names.specs.Name.{same_name}
 use Rattle.buffer.specs.Numeral.{bytes}
-use Rattle.names.specs.Laws.Name.{valid-length}
+use Rattle.names.proofs.Laws.Name.{valid-length}
 use Rattle.volume_entry.specs.Entry.{Entry, free, root, has_name, name_of, parent_of, contents_of}
 use Rattle.volume_tree.specs.Volume.{Volume, entry_at, is_child, formatted}
 use Rattle.volume_tree.specs.Form.{placed, well_formed}

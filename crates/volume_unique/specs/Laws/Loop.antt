@@ -1,6 +1,6 @@
 -- What the loops and tests of the form come to: a walk that stops at the first number that fails a test, numbers that are gathered of
 -- every entry, and two entries that share parent and name. Assumes nothing.
-use Rattle.std.specs.Prelude.{ℕ, ◌+◌, ◌-◌, ◌%◌, ◌≤◌, ◌<◌, ◌≡◌, refl, List, [], ◌∷◌, map, Bool, true, false, ◌||◌, length, get_or, set, ltb}
+use Rattle.std.specs.Prelude.{ℕ, ◌+◌, ◌%◌, ◌≤◌, ◌<◌, ◌≡◌, refl, List, [], ◌∷◌, map, Bool, true, false, ◌||◌, length, get_or, set, ltb}
 use Rattle.std.proofs.Common.{arith, ap, ap₂, ◌∙◌, get_or-set_same, get_or-set_other, ltb-true, ltb-false, ne_eqb}
 use Rattle.std.proofs.Math.Path.{sym}
 use Rattle.std.proofs.Math.Bool.{not, and-false}
@@ -12,7 +12,7 @@ use Rattle.volume_entry.specs.Entry.{Entry, free, parent_of, name_of}
 use Rattle.volume_tree.specs.Volume.{Volume, entry_at, every, is_child}
 use Rattle.volume_tree.specs.Form.{twins}
 use Rattle.volume_tree.specs.Laws.Form.{every-intro, every-not}
-use Rattle.names.specs.Laws.Name.{lower-rest, same-lower}
+use Rattle.names.proofs.Laws.Name.{lower-rest, same-lower}
 use Rattle.volume_unique.specs.Code.Checks.{digest_from, digest, alone_from}
 
 module _ (k n : ℕ) (f : ℕ → Bool) (size : k ≡ n) where
@@ -57,16 +57,20 @@ rests-lower : (s : List ℕ) → map (λ (v : ℕ). v % 32) (map lower_case s) �
 rests-lower [] = refl
 rests-lower (a ∷ s) = ap₂ (λ (v : ℕ) (r : List ℕ). v ∷ r) (lower-rest a) (rests-lower s)
 
+-- Names that are the same have one list of remainders by 32.
+same-rests : (s t : List ℕ) → same_name s t ≡ true → map (λ (v : ℕ). v % 32) s ≡ map (λ (v : ℕ). v % 32) t
+same-rests s t e = sym (rests-lower s) ∙ ap (map (λ (v : ℕ). v % 32)) (same-lower s t e) ∙ rests-lower t
+
 -- Names that are the same have one digest.
 pub same-digest : (s t : List ℕ) → same_name s t ≡ true → digest s ≡ digest t
-same-digest s t e = ap (digest_from 0) (sym (rests-lower s) ∙ ap (map (λ (v : ℕ). v % 32)) (same-lower s t e) ∙ rests-lower t)
+same-digest s t e = ap (digest_from 0) (same-rests s t e)
 
 -- An entry does not share parent and name with one whose name has another digest.
 pub other_name : (v : Volume) (i j : ℕ) → (digest (name_of (entry_at v i)) ≡ digest (name_of (entry_at v j)) → ⊥) → false ≡ twins v i j
 other_name v i j z = rw (go (same_name (name_of (entry_at v i)) (name_of (entry_at v j))) refl, and-false)
   where
     go : (t : Bool) → same_name (name_of (entry_at v i)) (name_of (entry_at v j)) ≡ t → same_name (name_of (entry_at v i)) (name_of (entry_at v j)) ≡ false
-    go true e = absurd (z (same-digest (name_of (entry_at v i)) (name_of (entry_at v j)) e))
+    go true e = absurd (z (ap (digest_from 0) (same-rests (name_of (entry_at v i)) (name_of (entry_at v j)) e)))
     go false e = e
 
 module _ (v : Volume) (i d : ℕ) (p : d ≡ parent_of (entry_at v i)) where

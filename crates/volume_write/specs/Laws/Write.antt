@@ -1,6 +1,6 @@
 -- What a change of some bytes of one entry leaves of a volume of the right form.
 -- Assumes nothing.
-use Rattle.std.specs.Prelude.{ℕ, zero, ◌+◌, ◌*◌, ◌≤◌, ◌<◌, ◌-◌, ◌≡◌, true, List, [], ◌++◌, length, set, take, drop, replicate}
+use Rattle.std.specs.Prelude.{ℕ, ◌+◌, ◌*◌, ◌≤◌, ◌<◌, ◌-◌, ◌≡◌, true, List, [], ◌++◌, length, set, take, drop, replicate}
 use Rattle.std.proofs.Common.{zero-add, add-zero, arith, sym, ap, ap₂, ◌∙◌, append_assoc, append-nil, length-append, length-take, length-drop, drop_of_length-le, take_at, drop_at, drop-drop, length-take-le}
 use Rattle.std.proofs.lemmas.List.{length-replicate}
 use Rattle.std.proofs.Math.Seq.{take-append_seam}

@@ -1,0 +1,44 @@
+-- `names::all_permitted` meets its contract. The loop's invariant: the whole text is permitted exactly where what is left of it is.
+-- Assumes nothing.
+use Prim.Native.Nat.{ℕ, ◌+◌, ◌≤◌, ◌<◌}
+use mathlib.Core.Path.{◌≡◌, refl, sym, ◌∙◌}
+use mathlib.Core.Bool.{Bool, true, false}
+use mathlib.Core.List.{List}
+use native.Mathlib.Omega.{arith}
+use lib.ListN.{length, get_or, drop, drop_of_length-le}
+use Rattle.names.specs.Name.{all_permitted, permitted_byte}
+use Rattle.names.proofs.Laws.Name.{permitted-rule, rule-permitted, all-step}
+use Rattle.names.proofs.all_permitted.Goals as goal
+
+-- a turn, by the byte at the place i, and the loop's end
+module _ (s : List ℕ) (i : ℕ) (inv : all_permitted s ≡ all_permitted (drop i s)) where
+  other : i < length s → (get_or s i 0 ≡ 0 → ⊥) → (get_or s i 0 ≡ 47 → ⊥) → all_permitted s ≡ all_permitted (drop (i + 1) s)
+  other h z t = rw (rule-permitted (get_or s i 0) z t) at (inv ∙ all-step s i h)
+
+  zero-or-slash : i < length s → ((get_or s i 0 ≡ 0 → ⊥) → get_or s i 0 ≡ 47) → false ≡ all_permitted s
+  zero-or-slash h f = go (permitted_byte (get_or s i 0)) refl
+    where
+      go : (b : Bool) → permitted_byte (get_or s i 0) ≡ b → false ≡ all_permitted s
+      go true e = let r = permitted-rule (get_or s i 0) e in absurd (r.1 (f r.0))
+      go false e = sym (rw e at (inv ∙ all-step s i h))
+
+  ended : length s ≤ i → true ≡ all_permitted s
+  unfolding all_permitted
+  ended h = sym (rw (drop_of_length-le s h) at inv)
+
+pub loop-i-init : goal.loop-i-init
+loop-i-init c = (omega arith, refl)
+
+pub returns-then-s-i-eq0 : goal.returns-then-s-i-eq0
+returns-then-s-i-eq0 c = let l = c.loop-i in zero-or-slash _ l.i l.invariant.1 (omega arith) (λ z. omega arith)
+
+pub returns-then-s-i-eq47 : goal.returns-then-s-i-eq47
+returns-then-s-i-eq47 c = let l = c.loop-i in zero-or-slash _ l.i l.invariant.1 (omega arith) (λ z. omega arith)
+
+pub loop-i-preserved : goal.loop-i-preserved
+loop-i-preserved c =
+    let l = c.loop-i in
+    (omega arith, other _ l.i l.invariant.1 (omega arith) (omega arith) (omega arith))
+
+pub returns : goal.returns
+returns c = let l = c.loop-i in ended _ l.i l.invariant.1 (omega arith)

@@ -1,0 +1,4 @@
+pub mod Rows
+pub mod Stored
+pub mod Due
+pub mod Cases
