@@ -1,5 +1,7 @@
 // Slots are freed, as document 01 asks that "Used slots come first" and "Free slots are zero": later slots move down by
 // one and the last used one becomes zero.
+#![tactic(auto)]
+
 ghost use Rattle.std.specs.Prelude.{◌≡◌, ◌++◌, ◌+◌, ◌*◌, ◌-◌, ◌≤◌, ◌<◌, length, take, drop, replicate};
 ghost use Rattle.buffer.specs.Patch.{patch};
 ghost use Rattle.log_rules.specs.Stored.{slot_bytes, encode_slots};

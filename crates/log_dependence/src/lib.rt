@@ -1,5 +1,7 @@
 // Dependence (document 01, "Order and dependence"): one pass over the used slots, from the last to the first, with the set of the
 // objects reached so far.
+#![tactic(auto)]
+
 pub mod reach;
 
 ghost use Rattle.std.specs.Prelude.{◌≡◌, List, ℕ, ◌<◌, length};

@@ -1,4 +1,6 @@
 // "Cut turns all waiting ones into lost ones, marks the dependents" (document 01, "Calls"): the slots, and the marks in the log's head.
+#![tactic(auto)]
+
 ghost use Rattle.std.specs.Prelude.{◌≡◌, map, cond, ◌<◌, length, set};
 ghost use Rattle.log_rules.specs.Slot.{is_waiting};
 ghost use Rattle.log_rules.specs.Stored.{encode_slots, encode_log, read_log};

@@ -1,5 +1,7 @@
 // Issuing an operation whose record stands in the first free slot of the log: "Each accepted change, and forder, alters the view,
 // takes one sequence number and waits". It is applied to the view from there.
+#![tactic(auto)]
+
 ghost use Rattle.std.specs.Prelude.{◌≡◌, ℕ, ◌+◌, ◌≤◌, ◌<◌, ◌++◌, length};
 ghost use Rattle.buffer.specs.Numeral.{bytes};
 ghost use Rattle.buffer.specs.Patch.{patch};
@@ -25,7 +27,7 @@ use record_reader::{Reading, read_record};
 use volume::apply::apply;
 
 // Who issues an operation.
-#[derive(Drop)]
+#[derive(Clone, Copy)]
 pub struct Issuer {
     pub program: usize,
 }

@@ -1,4 +1,6 @@
 // The search of a used slot of a log that is lent as a slice, from the first slot on.
+#![tactic(auto)]
+
 ghost use Rattle.std.specs.Prelude.{◌≡◌, ◌<◌, length};
 ghost use Rattle.log_rules.specs.Change.{is_sequence, is_loss_of};
 ghost use Rattle.log_rules.specs.Code.Slots.{slots_in, slot_at, Slotted};

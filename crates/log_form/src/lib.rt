@@ -1,4 +1,6 @@
 // The form of a log (document 01, "Geometry and stored form"), for any bytes.
+#![tactic(auto)]
+
 ghost use Rattle.std.specs.Prelude.{◌≡◌};
 ghost use Rattle.log_rules.specs.Stored.{lent_log, formed_log};
 

@@ -1,5 +1,7 @@
 // What fsync does to the server and the log (document 01, "Calls" and "Returned numbers"): it sends what the object needs, as far as
 // the link carries it, and counts the sends.
+#![tactic(auto)]
+
 ghost use Rattle.std.specs.Prelude.{◌≡◌, ◌<◌, min};
 ghost use Rattle.volume_tree.specs.Stored.{read_volume};
 ghost use Rattle.volume_tree.specs.Code.Lent.{Formed};

@@ -1,4 +1,6 @@
 // Issuing an operation by the shape of its record: it is written straight into the first free slot of the log, and issued from there.
+#![tactic(auto)]
+
 ghost use Rattle.std.specs.Prelude.{◌≡◌, ◌%◌, length};
 ghost use Rattle.record.specs.Kind.{map_of_kind};
 ghost use Rattle.volume_tree.specs.Stored.{read_volume};

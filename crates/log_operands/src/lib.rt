@@ -1,4 +1,6 @@
 // What the order of operations goes by: the operands of a record (document 01, "Order and dependence").
+#![tactic(auto)]
+
 ghost use Rattle.std.specs.Prelude.{◌≡◌};
 ghost use Rattle.record_reader.specs.declared.Names.{Names};
 ghost use Rattle.log_operands.specs.Code.Ordering.{Ordering, Sized, Told};
@@ -11,7 +13,7 @@ use record_valid::valid::stands;
 
 // What the order of an operation goes by: so many of fields 0 to 3 and the objects of a part of its record as operands and, of an
 // overwrite, where it writes.
-#[derive(Drop)]
+#[derive(Clone, Copy)]
 pub struct Order {
     pub count: usize,
     pub objects: Objects,

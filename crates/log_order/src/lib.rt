@@ -1,13 +1,15 @@
 // The precedence test and the operations that fsync needs (document 01, "Order and dependence"). Both go through the candidates
 // of a slot, which are the slots before a position, by recursion: "the candidate's sequence number falls at each call". A call
 // tries a run of up to 64 candidates, so at most m / 64 + 1 calls, rounded up, stand inside each other: 17 at m = 1,024.
+#![tactic(auto)]
+
 ghost use Rattle.std.specs.Prelude.{◌≡◌, ℕ, ◌+◌, ◌-◌, ◌≤◌, ◌<◌, Bool, List, length, take, drop};
 ghost use Rattle.std.proofs.Math.Seq.{slice};
 ghost use Rattle.record.specs.Operation.{Operation, Record};
 ghost use Rattle.log_rules.specs.Slot.{sequence_of};
 ghost use Rattle.log_rules.specs.Order.{preceded, needed};
 ghost use Rattle.log_rules.specs.Change.{waiting_of};
-ghost use Rattle.log_rules.specs.Laws.Order.{Rising};
+ghost use Rattle.log_rules.proofs.Laws.Order.{Rising};
 ghost use Rattle.log_rules.specs.Code.Slots.{slots_in, slot_at, Slotted};
 ghost use Rattle.log_rules.specs.Code.Flags.{Holds, chosen, AllWait};
 ghost use Rattle.log_touch.specs.Code.Later.{Later};

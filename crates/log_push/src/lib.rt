@@ -1,4 +1,6 @@
 // What is sent leaves the log (document 01, "Calls"): the slot of one operation, and the slots of all that fsync sent, in one pass.
+#![tactic(auto)]
+
 ghost use Rattle.std.specs.Prelude.{◌≡◌, true, ◌≤◌, ◌<◌, length};
 ghost use Rattle.volume_tree.specs.Stored.{read_volume};
 ghost use Rattle.volume_tree.specs.Code.Lent.{Formed};

@@ -7,4 +7,3 @@ pub mod Change
 pub mod Sends
 pub mod Code
 pub mod Cases
-pub mod Laws

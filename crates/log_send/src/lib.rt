@@ -1,4 +1,6 @@
 // Operations of a log being sent to the server (document 01, "Calls"): one of them, or those that fsync needs.
+#![tactic(auto)]
+
 ghost use Rattle.std.specs.Prelude.{◌≡◌, true, ◌≤◌, ◌<◌, length};
 ghost use Rattle.volume_tree.specs.Stored.{read_volume};
 ghost use Rattle.volume_tree.specs.Code.Lent.{Formed};

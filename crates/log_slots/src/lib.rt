@@ -1,5 +1,7 @@
 // The parts of a log that is lent as a slice (document 01, "Geometry and stored form"): the numbers of its head, how many slots
 // are used, and each used slot by its position.
+#![tactic(auto)]
+
 pub mod head;
 pub mod programs;
 pub mod slot;

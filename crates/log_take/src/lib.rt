@@ -1,5 +1,7 @@
 // "Take writes the earliest loss of a program and frees its slot", for the position where the loss was found; and "Renew clears its
 // mark" (document 01, "Calls").
+#![tactic(auto)]
+
 ghost use Rattle.std.specs.Prelude.{◌≡◌, ◌≤◌, ◌<◌, length};
 ghost use Rattle.log_rules.specs.Stored.{record_bytes, encode_log, read_log};
 ghost use Rattle.log_rules.specs.Change.{renewed};

@@ -1,5 +1,7 @@
 // What directly precedes what, by what is told of the earlier operation and the set of the operands of the later; and sets of objects
 // (document 01, "Order and dependence").
+#![tactic(auto)]
+
 ghost use Rattle.std.specs.Prelude.{◌≡◌, ◌+◌, ◌≤◌};
 ghost use Rattle.record.specs.Operation.{Operation};
 ghost use Rattle.log_rules.specs.Order.{directly_precedes};

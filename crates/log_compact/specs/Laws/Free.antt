@@ -13,7 +13,7 @@ use Rattle.log_rules.specs.Slot.{Slot}
 use Rattle.log_rules.specs.Stored.{slot_bytes, encode_slot, encode_slots}
 use Rattle.log_rules.specs.Code.Slots.{Slotted, slots_in, slot_part, no_slot, slot_at}
 use Rattle.log_rules.specs.Code.Flags.{kept}
-use Rattle.log_rules.specs.Laws.Geometry.{slotted-length, slots-append, take-slots, drop-slots, slot-stored}
+use Rattle.log_rules.proofs.Laws.Geometry.{slotted-length, slots-append, take-slots, drop-slots, slot-stored}
 use Rattle.log_compact.specs.Laws.Move.{length_part, tail-cleared}
 
 -- one slot freed

@@ -7,9 +7,9 @@ use Rattle.log_rules.specs.Programs.{with}
 use Rattle.log_rules.specs.Slot.{Slot, with_dependents, good_slots}
 use Rattle.log_rules.specs.Stored.{encode_slots}
 use Rattle.log_rules.specs.Depend.{reach, noted}
-use Rattle.log_rules.specs.Laws.Change.{noted-good, noted-length}
-use Rattle.log_rules.specs.Laws.Geometry.{good-take, good-drop, good-both, slots-in, slotted-of}
-use Rattle.log_rules.specs.Laws.Needed.{reach-at}
+use Rattle.log_rules.proofs.Laws.Change.{noted-good, noted-length}
+use Rattle.log_rules.proofs.Laws.Geometry.{good-take, good-drop, good-both, slots-in, slotted-of}
+use Rattle.log_rules.proofs.Laws.Needed.{reach-at}
 use Rattle.log_rules.specs.Code.Slots.{slots_in, slot_at, no_slot, Slotted}
 use Rattle.log_rules.specs.Code.Flags.{Holds}
 use Rattle.log_dependence.specs.Code.Reached.{reached_by, Tried}

@@ -13,11 +13,11 @@ use Rattle.log_rules.specs.Programs.{union}
 use Rattle.log_rules.specs.Slot.{lost, Slot, with_state, with_dependents, Log, with_marks, with_slots, is_waiting, good_slots, well_formed_log}
 use Rattle.log_rules.specs.Stored.{head_bytes, slot_bytes, encode_slots, encode_log, read_log}
 use Rattle.log_rules.specs.Change.{discarded, dependents_of, discard}
-use Rattle.log_rules.specs.Laws.Slot.{slots-inv, slots-of, formed-inv, formed-of}
-use Rattle.log_rules.specs.Laws.Stored.{length-slots, read-log}
-use Rattle.log_rules.specs.Laws.Program.{union-below}
-use Rattle.log_rules.specs.Laws.Change.{all-discarded-good, discard-good}
-use Rattle.log_rules.specs.Laws.Geometry.{slotted-of, slots-in, used-good, logged-whole, slotted-length}
+use Rattle.log_rules.proofs.Laws.Slot.{slots-inv, slots-of, formed-inv, formed-of}
+use Rattle.log_rules.proofs.Laws.Stored.{length-slots, read-log}
+use Rattle.log_rules.proofs.Laws.Program.{union-below}
+use Rattle.log_rules.proofs.Laws.Change.{all-discarded-good, discard-good}
+use Rattle.log_rules.proofs.Laws.Geometry.{slotted-of, slots-in, used-good, logged-whole, slotted-length}
 use Rattle.log_rules.specs.Code.Slots.{slots_in, no_slot, slot_at, Slotted, Logged, used_in}
 use Rattle.log_slots.specs.Laws.Slot.{slots-count}
 use Rattle.log_slots.specs.Laws.Head.{lent_part, lent-slots, used-back}

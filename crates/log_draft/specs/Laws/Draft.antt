@@ -12,20 +12,20 @@ use Rattle.buffer.specs.Laws.Numeral.{length-bytes}
 use Rattle.buffer.specs.Patch.{patch}
 use Rattle.record.specs.Operation.{Operation, Record, record_of, operands}
 use Rattle.record.specs.Fields.{encode, valid}
-use Rattle.record.specs.Laws.Record.{encode-length}
+use Rattle.record.proofs.Laws.Record.{encode-length}
 use Rattle.volume_entry.specs.Stored.{padded}
 use Rattle.volume_entry.specs.Laws.Write.{patch-between}
 use Rattle.log_rules.specs.Programs.{with}
 use Rattle.log_rules.specs.Slot.{Slot, Log, with_next}
 use Rattle.log_rules.specs.Stored.{encode_head, next_at, head_bytes, slot_bytes, record_start, record_bytes, record_end, encode_slot, encode_slots, encode_log, log_bytes}
-use Rattle.log_rules.specs.Laws.Head.{length-head, behind-head, next-put}
-use Rattle.log_rules.specs.Laws.Stored.{length-slot, length-slots}
-use Rattle.log_rules.specs.Laws.Slot.{formed-inv}
-use Rattle.log_rules.specs.Laws.Geometry.{slots-append, slots-in, slotted-of}
+use Rattle.log_rules.proofs.Laws.Head.{length-head, behind-head, next-put}
+use Rattle.log_rules.proofs.Laws.Stored.{length-slot, length-slots}
+use Rattle.log_rules.proofs.Laws.Slot.{formed-inv}
+use Rattle.log_rules.proofs.Laws.Geometry.{slots-append, slots-in, slotted-of}
 use Rattle.log_rules.specs.Depend.{noted}
 use Rattle.log_rules.specs.Change.{note, issue, waiting_slot}
 use Rattle.log_rules.specs.Code.Slots.{slots_in, Slotted}
-use Rattle.log_rules.specs.Laws.Change.{noted-good, noted-length}
+use Rattle.log_rules.proofs.Laws.Change.{noted-good, noted-length}
 use Rattle.log_slots.specs.Laws.Slot.{head-limits}
 use Rattle.log_draft.specs.declared.Issuer.{Issuer}
 use Rattle.log_draft.specs.declared.Draft.{Draft}

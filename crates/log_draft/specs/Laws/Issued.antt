@@ -11,13 +11,13 @@ use Rattle.volume_tree.specs.Laws.Stored.{read-good}
 use Rattle.volume_tree.specs.Laws.Lent.{encoded-formed}
 use Rattle.volume_tree.specs.Code.Lent.{Formed}
 use Rattle.volume_apply.specs.Apply.{apply}
-use Rattle.volume_apply.specs.Laws.Apply.{apply-good}
+use Rattle.volume_apply.proofs.Laws.Apply.{apply-good}
 use Rattle.log_rules.specs.Slot.{Log, well_formed_log}
 use Rattle.log_rules.specs.Stored.{encode_log, read_log}
-use Rattle.log_rules.specs.Laws.Stored.{read-log}
+use Rattle.log_rules.proofs.Laws.Stored.{read-log}
 use Rattle.log_rules.specs.Change.{note}
-use Rattle.log_rules.specs.Laws.Change.{note-good, issue-good, noted-length}
-use Rattle.log_rules.specs.Laws.Geometry.{logged-whole}
+use Rattle.log_rules.proofs.Laws.Change.{note-good, issue-good, noted-length}
+use Rattle.log_rules.proofs.Laws.Geometry.{logged-whole}
 use Rattle.log_rules.specs.Code.Slots.{Logged}
 use Rattle.log_slots.specs.Laws.Slot.{head-limits}
 use Rattle.log_draft.specs.Code.Issued.{Issuable, issued_log, Issued, Room, issued_all, applied_all, AllIssued}

@@ -6,7 +6,7 @@ use Rattle.log_rules.specs.Slot.{Slot, is_waiting, sequence_of}
 use Rattle.log_rules.specs.Stored.{slot_bytes}
 use Rattle.log_rules.specs.Change.{removed, earliest, is_sequence, is_loss_of}
 use Rattle.log_rules.specs.Code.Slots.{slots_in, slot_at, Slotted}
-use Rattle.log_rules.specs.Laws.Freed.{removed-at, earliest-at, earliest-not}
+use Rattle.log_rules.proofs.Laws.Freed.{removed-at, earliest-at, earliest-not}
 use Rattle.log_slots.specs.Laws.Slot.{slots-count}
 use Rattle.log_find.specs.declared.Position.TheVariants.{At, Nothing}
 use Rattle.log_find.specs.Code.Found.{NoneBefore, FoundBy}

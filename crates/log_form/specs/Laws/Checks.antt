@@ -6,16 +6,16 @@ use Rattle.std.proofs.lemmas.Bool.{false≢true, eqb-false}
 use Rattle.std.proofs.Math.Option.{Option, none, some}
 use Rattle.buffer.specs.Decoded.{is_some}
 use Rattle.buffer.specs.Laws.Test.{same_test}
-use Rattle.buffer.specs.Numeral.{bytes, Bytes}
+use Rattle.buffer.specs.Numeral.{Bytes}
 use Rattle.buffer.specs.Laws.Numeral.{bytes-part}
 use Rattle.buffer.specs.Code.Zero.{zeros}
 use Rattle.buffer.specs.Laws.Zero.{zeros-replicate, replicate-zeros}
 use Rattle.volume_entry.specs.Stored.{padded}
 use Rattle.log_rules.specs.Slot.{State, waiting, lost, state_number, Slot, Log, is_waiting, sequence_of, good_slots, well_formed_log}
 use Rattle.log_rules.specs.Stored.{head_bytes, slot_bytes, log_bytes, encode_slot, encode_slots, encode_log, read_head, read_log, decode_log}
-use Rattle.log_rules.specs.Laws.Slot.{and_both, slots-inv, slots-of, formed-inv, formed-of}
-use Rattle.log_rules.specs.Laws.Head.{behind-head}
-use Rattle.log_rules.specs.Laws.Stored.{length-slot, read-log, decode-encode, encode-decode}
+use Rattle.log_rules.proofs.Laws.Slot.{and_both, slots-inv, slots-of, formed-inv, formed-of}
+use Rattle.log_rules.proofs.Laws.Head.{behind-head}
+use Rattle.log_rules.proofs.Laws.Stored.{length-slot, read-log, decode-encode, encode-decode}
 use Rattle.log_form.specs.declared.slot.SlotForm.{SlotForm}
 use Rattle.log_form.specs.declared.slot.SlotForm.TheVariants.{Is, Bad}
 use Rattle.log_form.specs.Code.Checks.{slot_form, may_follow, slots_formed, log_formed}

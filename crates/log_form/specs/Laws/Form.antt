@@ -7,7 +7,7 @@ use Rattle.std.proofs.Math.Option.{Option, none, some}
 use Rattle.buffer.specs.Decoded.{is_some}
 use Rattle.log_rules.specs.Slot.{Log, well_formed_log}
 use Rattle.log_rules.specs.Stored.{log_bytes, encode_log, read_log, decode_log, lent_log, formed_log}
-use Rattle.log_rules.specs.Laws.Stored.{read-log, encode-decode}
+use Rattle.log_rules.proofs.Laws.Stored.{read-log, encode-decode}
 use Rattle.log_rules.specs.Code.Slots.{Logged}
 
 -- what is asked of n, b, m and the length, part by part

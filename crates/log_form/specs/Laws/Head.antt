@@ -6,7 +6,7 @@ use Rattle.std.proofs.Math.ListN.{take}
 use Rattle.buffer.specs.Numeral.{bytes, numeral, Bytes}
 use Rattle.buffer.specs.Laws.Numeral.{number-back}
 use Rattle.log_rules.specs.Stored.{next_at, marks_at, head_bytes, encode_head, read_head}
-use Rattle.log_rules.specs.Laws.Slot.{GoodHead}
+use Rattle.log_rules.proofs.Laws.Slot.{GoodHead}
 use Rattle.log_form.specs.Laws.Slot.{four_below}
 
 module _ (s : List ℕ) (room : head_bytes ≤ length s) (byte : Bytes s) where

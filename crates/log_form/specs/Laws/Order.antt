@@ -3,10 +3,10 @@ use Rattle.std.specs.Prelude.{ℕ, ◌≡◌, refl, Bool, true, false, not, ◌&
 use Rattle.std.proofs.Math.Bool.{and-eq-true_iff}
 use Rattle.std.proofs.Common.{leb-true, lt-ltb}
 use Rattle.record.specs.Fields.{valid_head, between}
-use Rattle.record.specs.Laws.Record.{valid-inv}
+use Rattle.record.proofs.Laws.Record.{valid-inv}
 use Rattle.log_rules.specs.Slot.{Slot, is_waiting, sequence_of, good_slots, follows, rising}
-use Rattle.log_rules.specs.Laws.Slot.{and_both, slots-inv}
-use Rattle.log_rules.specs.Laws.Change.{rising-inv}
+use Rattle.log_rules.proofs.Laws.Slot.{and_both, slots-inv}
+use Rattle.log_rules.proofs.Laws.Change.{rising-inv}
 use Rattle.log_form.specs.Code.Checks.{may_follow}
 
 -- what is asked of a slot that comes behind another, part by part

@@ -26,8 +26,8 @@ use Rattle.record_reader.specs.Laws.Fit.{fits_read}
 use Rattle.volume_entry.specs.Stored.{padded}
 use Rattle.log_rules.specs.Slot.{State, waiting, lost, state_number, Slot, with_state, is_waiting, sequence_of}
 use Rattle.log_rules.specs.Stored.{slot_bytes, dependents_at, record_start, record_bytes, encode_front, encode_slot, record_part}
-use Rattle.log_rules.specs.Laws.Stored.{record-held}
-use Rattle.log_rules.specs.Laws.Slot.{GoodSlot}
+use Rattle.log_rules.proofs.Laws.Stored.{record-held}
+use Rattle.log_rules.proofs.Laws.Slot.{GoodSlot}
 use Rattle.log_form.specs.declared.slot.SlotForm.TheVariants.{Is, Bad}
 use Rattle.log_form.specs.Code.Checks.{front_formed, form_by, slot_form}
 

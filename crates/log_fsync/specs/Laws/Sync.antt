@@ -12,13 +12,13 @@ use Rattle.volume_tree.specs.Stored.{encode_volume}
 use Rattle.volume_apply.specs.Apply.{applies, apply}
 use Rattle.log_rules.specs.Slot.{Slot, Log, well_formed_log, with_slots}
 use Rattle.log_rules.specs.Stored.{encode_log, read_log}
-use Rattle.log_rules.specs.Laws.Stored.{read-log}
+use Rattle.log_rules.proofs.Laws.Stored.{read-log}
 use Rattle.log_rules.specs.Order.{needed}
 use Rattle.log_rules.specs.Change.{waiting_of, note, discard}
-use Rattle.log_rules.specs.Laws.Change.{note-good}
+use Rattle.log_rules.proofs.Laws.Change.{note-good}
 use Rattle.log_rules.specs.Sends.{applying, apply_all, sent_all}
-use Rattle.log_rules.specs.Laws.Freed.{formed-rising, sent-kept, kept-formed, chosen-noted, wait-noted}
-use Rattle.log_rules.specs.Laws.Geometry.{logged-whole}
+use Rattle.log_rules.proofs.Laws.Freed.{formed-rising, sent-kept, kept-formed, chosen-noted, wait-noted}
+use Rattle.log_rules.proofs.Laws.Geometry.{logged-whole}
 use Rattle.log_rules.specs.Code.Slots.{Logged}
 use Rattle.log_rules.specs.Code.Flags.{chosen, kept, AllWait}
 use Rattle.log_send.specs.Code.Sends.{SentFound}

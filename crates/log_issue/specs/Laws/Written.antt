@@ -8,12 +8,12 @@ use Rattle.std.proofs.lemmas.List.{length-replicate, replicate-append-replicate}
 use Rattle.std.proofs.Math.Seq.{take_at, drop_at}
 use Rattle.record.specs.Operation.{Record}
 use Rattle.record.specs.Fields.{encode, valid}
-use Rattle.record.specs.Laws.Record.{encode-length}
+use Rattle.record.proofs.Laws.Record.{encode-length}
 use Rattle.volume_entry.specs.Stored.{padded}
 use Rattle.log_rules.specs.Stored.{encode_head, head_bytes, slot_bytes, record_start, record_bytes, encode_slots, read_log}
-use Rattle.log_rules.specs.Laws.Head.{length-head}
-use Rattle.log_rules.specs.Laws.Stored.{length-slots}
-use Rattle.log_rules.specs.Laws.Geometry.{head-part, used-bytes, logged-parts, used-good}
+use Rattle.log_rules.proofs.Laws.Head.{length-head}
+use Rattle.log_rules.proofs.Laws.Stored.{length-slots}
+use Rattle.log_rules.proofs.Laws.Geometry.{head-part, used-bytes, logged-parts, used-good}
 use Rattle.log_rules.specs.Code.Slots.{Logged, used_in}
 use Rattle.log_draft.specs.declared.Issuer.{Issuer}
 use Rattle.log_draft.specs.declared.Draft.{Draft}

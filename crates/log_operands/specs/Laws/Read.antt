@@ -9,9 +9,9 @@ use Rattle.buffer.specs.declared.span.Span.{Span}
 use Rattle.buffer.specs.Numeral.{Bytes}
 use Rattle.buffer.specs.Code.Span.{span, stretch}
 use Rattle.record.specs.Operation.{Operation, Record, map_of}
-use Rattle.record.specs.Laws.Operation.{one-group}
+use Rattle.record.proofs.Laws.Operation.{one-group}
 use Rattle.record.specs.Fields.{stands_in, number_if, field, if_stands, between, all_up_to, different, valid_list, valid_objects, valid_range, valid, encode, objects_of}
-use Rattle.record.specs.Laws.Record.{block-short}
+use Rattle.record.proofs.Laws.Record.{block-short}
 use Rattle.record_reader.specs.declared.Place.{Place}
 use Rattle.record_reader.specs.declared.Field.TheVariants.{Number}
 use Rattle.record_reader.specs.declared.Head.{Head}

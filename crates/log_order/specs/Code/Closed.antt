@@ -1,7 +1,6 @@
 -- What a pass over the slots, from the last to the first, has found: the operations picked, or with an operand among given objects, and
 -- their predecessors.
 use Rattle.std.specs.Prelude.{ℕ, ◌+◌, ◌≤◌, ◌<◌, ◌≡◌, List, [], ◌∷◌, ◌++◌, Bool, true, ◌||◌, cond, length, drop}
-use Rattle.std.proofs.Math.Option.{some}
 use Rattle.buffer.specs.Decoded.{is_some}
 use Rattle.record.specs.Operation.{Operation, Record, operands, overwrite_of}
 use Rattle.log_rules.specs.Slot.{Slot, is_waiting}

@@ -1,5 +1,5 @@
 -- When an operation is found, by the objects of those found so far, and what a turn of the pass adds.
-use Rattle.std.specs.Prelude.{ℕ, zero, suc, ◌+◌, ◌≤◌, ◌<◌, ◌≡◌, ◌⊎◌, Bool, ◌&&◌, ◌||◌, cond, length, get_or, set, drop, replicate, eqb, ltb}
+use Rattle.std.specs.Prelude.{ℕ, zero, suc, ◌+◌, ◌≤◌, ◌<◌, ◌≡◌, ◌⊎◌, Bool, ◌&&◌, ◌||◌, cond, length, set, drop, replicate, eqb, ltb}
 use Rattle.std.proofs.Common.{add-one, arith, ap, ◌∙◌, subst, inl, inr, ⊎_elim, length-set, drop-cons, drop-set-lt, get_or-set_same, get_or-set_other, lt-ltb}
 use Rattle.std.proofs.Math.Path.{refl, sym}
 use mathlib.Core.List.{List, [], ◌∷◌, ◌++◌, Memᴰ}
@@ -14,11 +14,11 @@ use Rattle.record.specs.Operation.{Operation, Record, operands, Stretch, overwri
 use Rattle.log_rules.specs.Slot.{Slot, is_waiting, sequence_of}
 use Rattle.log_rules.specs.Order.{shares, touches, separate, directly_precedes, any, closure, before}
 use Rattle.log_rules.specs.Change.{waiting_of}
-use Rattle.log_rules.specs.Laws.Order.{Rising, in-any, any-in, before_of, before-ordered, closure-in}
-use Rattle.log_rules.specs.Laws.Change.{waiting-in}
-use Rattle.log_rules.specs.Laws.Swap.{shares-sym}
-use Rattle.log_rules.specs.Laws.Chain.{shares-append}
-use Rattle.log_rules.specs.Laws.Needed.{chosen_at}
+use Rattle.log_rules.proofs.Laws.Order.{Rising, in-any, any-in, before_of, before-ordered, closure-in}
+use Rattle.log_rules.proofs.Laws.Change.{waiting-in}
+use Rattle.log_rules.proofs.Laws.Swap.{shares-sym}
+use Rattle.log_rules.proofs.Laws.Chain.{shares-append}
+use Rattle.log_rules.proofs.Laws.Needed.{chosen_at}
 use Rattle.log_rules.specs.Code.Slots.{slot_at, no_slot}
 use Rattle.log_rules.specs.Code.Flags.{stands, Holds, chosen, AllWait}
 use Rattle.log_order.specs.Code.Closed.{is_found, found_in, some_after, is_overwrite, objects_found, others_found, Closed, ClosedMore, Picked, Closure}

@@ -8,8 +8,8 @@ use Rattle.record.specs.Operation.{Operation, Record}
 use Rattle.log_rules.specs.Slot.{Slot, is_waiting, sequence_of}
 use Rattle.log_rules.specs.Order.{directly_precedes, any, before, preceded}
 use Rattle.log_rules.specs.Change.{waiting_of}
-use Rattle.log_rules.specs.Laws.Order.{Rising, direct-decides}
-use Rattle.log_rules.specs.Laws.Freed.{slot-in}
+use Rattle.log_rules.proofs.Laws.Order.{Rising, direct-decides}
+use Rattle.log_rules.proofs.Laws.Freed.{slot-in}
 use Rattle.log_rules.specs.Code.Slots.{slot_at, no_slot}
 use Rattle.log_order.specs.Code.Candidates.{waits_before, some_before}
 

@@ -11,7 +11,7 @@ use Rattle.record.specs.Operation.{Operation, Record, operands, Stretch, overwri
 use Rattle.volume_tree.specs.Laws.Answer.{settled}
 use Rattle.log_rules.specs.Slot.{Slot, is_waiting, sequence_of}
 use Rattle.log_rules.specs.Order.{shares}
-use Rattle.log_rules.specs.Laws.Order.{Rising}
+use Rattle.log_rules.proofs.Laws.Order.{Rising}
 use Rattle.log_rules.specs.Code.Slots.{slot_at}
 use Rattle.log_rules.specs.Code.Flags.{stands, Holds, chosen}
 use Rattle.log_operands.specs.declared.Order.{Order}

@@ -6,8 +6,8 @@ use Rattle.log_rules.specs.Slot.{Slot, Log, is_waiting, sequence_of}
 use Rattle.log_rules.specs.Stored.{head_bytes, slot_bytes, encode_slots, encode_log, read_log}
 use Rattle.log_rules.specs.Change.{sent}
 use Rattle.log_rules.specs.Sends.{sent_all}
-use Rattle.log_rules.specs.Laws.Geometry.{good-take, good-drop, good-both, used-good}
-use Rattle.log_rules.specs.Laws.Freed.{formed-rising, sent-at, sent-kept, kept-most, kept-good}
+use Rattle.log_rules.proofs.Laws.Geometry.{good-take, good-drop, good-both, used-good}
+use Rattle.log_rules.proofs.Laws.Freed.{formed-rising, sent-at, sent-kept, kept-most, kept-good}
 use Rattle.log_rules.specs.Code.Slots.{slots_in, slot_at, Logged, used_in}
 use Rattle.log_rules.specs.Code.Flags.{chosen, kept, AllWait}
 use Rattle.log_slots.specs.Laws.Head.{used-fewer, lent-slots}

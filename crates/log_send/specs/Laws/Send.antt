@@ -1,6 +1,6 @@
 -- What was sent: the record that the code reads in a slot, which operations are sent within k, and the server after them.
 -- Assumes nothing.
-use Rattle.std.specs.Prelude.{ℕ, zero, suc, ◌-◌, ◌<◌, ◌≡◌, refl, List, [], ◌∷◌, Bool, true, false, cond, length, take}
+use Rattle.std.specs.Prelude.{ℕ, zero, suc, ◌<◌, ◌≡◌, refl, List, [], ◌∷◌, Bool, true, false, cond, length, take}
 use Rattle.std.proofs.Common.{ap}
 use Rattle.record_reader.specs.declared.Whole.{Whole}
 use Rattle.record_reader.specs.declared.Reading.TheVariants.{Is as RecordIs, Bad as NoRecord}
@@ -16,13 +16,13 @@ use Rattle.volume_tree.specs.Code.Lent.{Formed}
 use Rattle.volume_tree.specs.Laws.Stored.{read-good}
 use Rattle.volume_tree.specs.Laws.Lent.{encoded-formed}
 use Rattle.volume_apply.specs.Apply.{applies, apply}
-use Rattle.volume_apply.specs.Laws.Apply.{apply-good}
+use Rattle.volume_apply.proofs.Laws.Apply.{apply-good}
 use Rattle.volume_applies.specs.Code.Held.{Fitting}
 use Rattle.volume_applies.specs.Laws.Held.{held-there, held_found, held-fitting}
 use Rattle.log_rules.specs.Slot.{Slot, good_slots}
 use Rattle.log_rules.specs.Stored.{record_bytes}
-use Rattle.log_rules.specs.Laws.Slot.{GoodSlot}
-use Rattle.log_rules.specs.Laws.Geometry.{good-at}
+use Rattle.log_rules.proofs.Laws.Slot.{GoodSlot}
+use Rattle.log_rules.proofs.Laws.Geometry.{good-at}
 use Rattle.log_rules.specs.Code.Slots.{slot_at}
 use Rattle.log_rules.specs.Sends.{applying}
 use Rattle.log_send.specs.Code.Sends.{sendable}

@@ -15,8 +15,8 @@ use Rattle.volume_tree.specs.Stored.{encode_volume, read_volume}
 use Rattle.volume_tree.specs.Code.Lent.{Formed}
 use Rattle.volume_apply.specs.Apply.{applies, apply}
 use Rattle.log_rules.specs.Slot.{Slot, good_slots}
-use Rattle.log_rules.specs.Laws.Geometry.{good-at}
-use Rattle.log_rules.specs.Laws.Needed.{chosen_at}
+use Rattle.log_rules.proofs.Laws.Geometry.{good-at}
+use Rattle.log_rules.proofs.Laws.Needed.{chosen_at}
 use Rattle.log_rules.specs.Sends.{applying, apply_all}
 use Rattle.log_rules.specs.Code.Flags.{stands, chosen, AllWait}
 use Rattle.log_rules.specs.Code.Slots.{slot_at}

@@ -2,10 +2,10 @@
 use Rattle.std.specs.Prelude.{ℕ, ◌+◌, ◌*◌, ◌-◌, ◌%◌, ◌≤◌, ◌<◌, ◌≡◌, true, List, ◌++◌, length, get_or, take, drop, replicate}
 use Rattle.std.proofs.Common.{add-zero, arith, sym, ap, ap₂, ◌∙◌, get_or-take, get_or-drop, drop-drop}
 use Rattle.std.proofs.lemmas.List.{get_or-replicate}
-use Rattle.log_rules.specs.Slot.{State, waiting, lost, state_number, Slot, Log, with_slots, good_slots}
+use Rattle.log_rules.specs.Slot.{State, waiting, lost, state_number, Slot, with_slots, good_slots}
 use Rattle.log_rules.specs.Stored.{head_bytes, slot_bytes, encode_slots, encode_log, read_log}
-use Rattle.log_rules.specs.Laws.Stored.{slot-state}
-use Rattle.log_rules.specs.Laws.Geometry.{used-slots, used-slotted, free_part, slot-stored, slots-replaced, slots-fewer}
+use Rattle.log_rules.proofs.Laws.Stored.{slot-state}
+use Rattle.log_rules.proofs.Laws.Geometry.{used-slots, used-slotted, free_part, slot-stored, slots-replaced, slots-fewer}
 use Rattle.log_rules.specs.Code.Slots.{slots_in, slot_part, slot_at, Slotted, Logged, used_in, used_part}
 
 -- the bytes behind a log's head that are lent on as so many slots

@@ -3,7 +3,7 @@ use Rattle.std.specs.Prelude.{ℕ, zero, suc, ◌+◌, ◌-◌, ◌^◌, ◌≤�
 use Rattle.std.proofs.Common.{pow-suc, arith}
 use Rattle.std.proofs.Math.Nat.{pow-zero}
 use Rattle.log_rules.specs.Programs.{holds, with, without}
-use Rattle.log_rules.specs.Laws.Program.{holds-none, with-below}
+use Rattle.log_rules.proofs.Laws.Program.{holds-none, with-below}
 
 -- A bit is at least 1.
 bit-least : (p : ℕ) → 1 ≤ 2 ^ p

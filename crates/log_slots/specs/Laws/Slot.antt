@@ -8,12 +8,12 @@ use Rattle.buffer.specs.Laws.Numeral.{numeral-bytes}
 use Rattle.buffer.specs.Patch.{patch}
 use Rattle.record.specs.Operation.{Record}
 use Rattle.record.specs.Fields.{encode, head_bytes, between, valid_head, valid}
-use Rattle.record.specs.Laws.Record.{valid-inv}
+use Rattle.record.proofs.Laws.Record.{valid-inv}
 use Rattle.volume_entry.specs.Laws.Write.{patch-inside}
 use Rattle.log_rules.specs.Slot.{State, waiting, lost, state_number, Slot, with_state, with_dependents, is_waiting, sequence_of}
 use Rattle.log_rules.specs.Stored.{slot_bytes, dependents_at, record_start, encode_slot, encode_slots}
-use Rattle.log_rules.specs.Laws.Stored.{length-slot, slot-state}
-use Rattle.log_rules.specs.Laws.Geometry.{good-at, slotted-length, slot-stored, slot-set}
+use Rattle.log_rules.proofs.Laws.Stored.{length-slot, slot-state}
+use Rattle.log_rules.proofs.Laws.Geometry.{good-at, slotted-length, slot-stored, slot-set}
 use Rattle.log_rules.specs.Code.Slots.{slots_in, slot_at, Slotted}
 
 -- There are as many used slots as their bytes have room for.

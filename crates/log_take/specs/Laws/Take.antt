@@ -4,7 +4,7 @@ use Rattle.std.proofs.Common.{add-one, arith, sym, ap, ◌∙◌, length-append,
 use Rattle.std.proofs.Math.Option.{some}
 use Rattle.buffer.specs.Patch.{Put}
 use Rattle.record.specs.Fields.{encode}
-use Rattle.record.specs.Laws.Record.{encode-length}
+use Rattle.record.proofs.Laws.Record.{encode-length}
 use Rattle.record_reader.specs.declared.Whole.{Whole}
 use Rattle.record_reader.specs.declared.Reading.TheVariants.{Is as RecordIs, Bad as NoRecord}
 use Rattle.record_reader.specs.Code.Reader.{record_at}
@@ -13,8 +13,8 @@ use Rattle.volume_applies.specs.Laws.Held.{held-there, held_next, held_bytes}
 use Rattle.log_rules.specs.Slot.{Slot, Log, with_slots, good_slots}
 use Rattle.log_rules.specs.Stored.{head_bytes, slot_bytes, record_bytes, encode_slots, encode_log, read_log}
 use Rattle.log_rules.specs.Change.{is_loss_of, earliest, taken}
-use Rattle.log_rules.specs.Laws.Slot.{slots-inv, slots-of}
-use Rattle.log_rules.specs.Laws.Geometry.{used-good}
+use Rattle.log_rules.proofs.Laws.Slot.{slots-inv, slots-of}
+use Rattle.log_rules.proofs.Laws.Geometry.{used-good}
 use Rattle.log_rules.specs.Code.Slots.{slots_in, slot_at, Slotted, Logged, used_in}
 use Rattle.log_slots.specs.Laws.Slot.{record-valid}
 use Rattle.log_slots.specs.Laws.Head.{lent_part, lent-slots, used-fewer}

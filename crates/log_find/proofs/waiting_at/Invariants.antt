@@ -1,0 +1,13 @@
+-- `log_find::waiting_at` meets its contract. The loop's invariant: no slot passed holds the waiting operation.
+-- Assumes nothing.
+use Prim.Native.Nat.{◌-◌, ◌≤◌}
+use Rattle.log_rules.specs.Change.{is_sequence}
+use Rattle.log_rules.specs.Code.Slots.{slots_in}
+use Rattle.log_find.specs.Code.Found.{NoneBefore}
+use Rattle.log_find.proofs.waiting_at.Given as goal
+
+abbrev pub invariant-loop-i : goal.invariant-loop-i
+invariant-loop-i l = (l.i ≤ l.count) × NoneBefore (is_sequence l.q) (slots_in l.s) l.i
+
+abbrev pub decreases-loop-i : goal.decreases-loop-i
+decreases-loop-i l = l.count - l.i
