@@ -5,7 +5,6 @@ pub mod Refusal
 pub mod Model
 pub mod Question
 pub mod Issue
-pub mod Laws
 pub mod Edit
 pub mod Effect
 pub mod Send

@@ -1,1 +1,2 @@
-// The calls (document 01, "Calls" and "Returned numbers"): definitions and laws, in specs/.
+// The calls (document 01, "Calls" and "Returned numbers"): definitions in specs/, laws in proofs/.
+#![tactic(auto)]

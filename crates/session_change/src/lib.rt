@@ -1,5 +1,7 @@
 // What all changes and forder share (document 01, "Calls" and "Returned numbers"): a change is refused for its program (3 and 4), by
 // its own table, or for want of room (13 and 14).
+#![tactic(auto)]
+
 ghost use Rattle.std.specs.Prelude.{◌≡◌, ◌≤◌};
 ghost use Rattle.log_rules.specs.Stored.{read_log};
 ghost use Rattle.log_rules.specs.Code.Slots.{Logged};

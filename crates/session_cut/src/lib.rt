@@ -1,4 +1,6 @@
 // "Cut turns all waiting ones into lost ones, marks the dependents, and copies the server to the view" (document 01, "Calls").
+#![tactic(auto)]
+
 ghost use Rattle.std.specs.Prelude.{◌≡◌, []};
 ghost use Rattle.session.specs.Call.{geometry, buffers};
 ghost use Rattle.session.specs.Call;

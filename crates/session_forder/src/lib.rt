@@ -1,4 +1,6 @@
 // Forder (document 01, "Calls"), which is issued like a change: "Forder's list is lent as 2 bytes an object".
+#![tactic(auto)]
+
 ghost use Rattle.std.specs.Prelude.{◌≡◌, [], ◌∷◌};
 ghost use Rattle.record.specs.Fields.{objects_of};
 ghost use Rattle.volume_tree.specs.Stored.{read_volume};

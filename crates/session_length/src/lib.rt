@@ -1,4 +1,6 @@
 // Set length (document 01, "Calls"): "Set length zeroes what it cuts off or adds."
+#![tactic(auto)]
+
 ghost use Rattle.std.specs.Prelude.{◌≡◌, [], ◌∷◌};
 ghost use Rattle.volume_tree.specs.Stored.{read_volume};
 ghost use Rattle.volume_tree.specs.Code.Lent.{Lent};

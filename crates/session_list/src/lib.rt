@@ -1,4 +1,6 @@
 // "list (per child number 2, kind 1, name length 1, name; rising numbers)" (document 01, "Calls").
+#![tactic(auto)]
+
 ghost use Rattle.std.specs.Prelude.{◌≡◌, [], ◌∷◌};
 ghost use Rattle.volume_questions.specs.Answer.{list_number, list_results};
 ghost use Rattle.session.specs.Call.{geometry, buffers};

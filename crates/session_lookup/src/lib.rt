@@ -1,5 +1,7 @@
 // "Lookup alone takes a path and gives an object number"; its "operands are the directories it searches and the object found"
 // (document 01, "Calls").
+#![tactic(auto)]
+
 ghost use Rattle.std.specs.Prelude.{◌≡◌, [], ◌∷◌};
 ghost use Rattle.volume_lookup.specs.Lookup.{reached_number, reached_results};
 ghost use Rattle.session.specs.Call.{geometry, buffers};

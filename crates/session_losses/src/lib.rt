@@ -1,4 +1,6 @@
 // What take and renew share (document 01, "Calls"): "the earliest loss of a program", in a whole log.
+#![tactic(auto)]
+
 ghost use Rattle.log_rules.specs.Stored.{read_log};
 ghost use Rattle.log_rules.specs.Change.{is_loss_of};
 ghost use Rattle.log_rules.specs.Code.Slots.{Logged};

@@ -1,4 +1,6 @@
 // Create and make directory (document 01, "Calls"): "Create and make directory take an unused object number from the caller."
+#![tactic(auto)]
+
 ghost use Rattle.std.specs.Prelude.{◌≡◌, [], ◌∷◌};
 ghost use Rattle.volume_tree.specs.Stored.{read_volume};
 ghost use Rattle.volume_tree.specs.Code.Lent.{Lent};

@@ -1,5 +1,7 @@
 // "Format makes a server volume with only a root. Mount checks the server volume, copies it to the view and begins an empty log"
 // (document 01, "Calls").
+#![tactic(auto)]
+
 ghost use Rattle.std.specs.Prelude.{◌≡◌, ◌&&◌, [], length};
 ghost use Rattle.log_rules.specs.Slot.{empty_log};
 ghost use Rattle.log_rules.specs.Stored.{log_bytes, encode_log};

@@ -1,4 +1,6 @@
 // "Push sends the waiting operation of a given sequence number and frees its slot" (document 01, "Calls").
+#![tactic(auto)]
+
 ghost use Rattle.std.specs.Prelude.{◌≡◌, [], ◌<◌};
 ghost use Rattle.log_rules.specs.Stored.{read_log};
 ghost use Rattle.log_rules.specs.Order.{preceded};

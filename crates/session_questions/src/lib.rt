@@ -1,4 +1,6 @@
 // What the four questions, lookup, list, stat and read, do before and after they are asked (document 01, "Calls").
+#![tactic(auto)]
+
 ghost use Rattle.std.specs.Prelude.{◌≡◌, [], ◌∷◌, ◌<◌};
 ghost use Rattle.log_rules.specs.Stored.{encode_log, read_log};
 ghost use Rattle.log_rules.specs.Change.{note};

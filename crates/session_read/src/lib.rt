@@ -1,4 +1,6 @@
 // "Read gives the smaller of the buffer length and what follows the offset; other bytes stay" (document 01, "Calls").
+#![tactic(auto)]
+
 ghost use Rattle.std.specs.Prelude.{◌≡◌, [], ◌∷◌};
 ghost use Rattle.volume_questions.specs.Answer.{read_number, read_results};
 ghost use Rattle.session.specs.Call.{geometry, buffers};

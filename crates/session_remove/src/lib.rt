@@ -1,5 +1,7 @@
 // Remove file and remove directory (document 01, "Calls"): "Remove file takes only files, remove directory only empty directories."
 // (document 02, K4)
+#![tactic(auto)]
+
 ghost use Rattle.std.specs.Prelude.{◌<◌, ◌≡◌, [], ◌∷◌};
 ghost use Rattle.volume_tree.specs.Volume.{entry_at};
 ghost use Rattle.volume_tree.specs.Stored.{read_volume};

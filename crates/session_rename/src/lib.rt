@@ -1,5 +1,7 @@
 // Rename (document 01, "Calls"): "Rename replaces a file by a file or an empty directory by a directory. A directory stays
 // in its parent."
+#![tactic(auto)]
+
 ghost use Rattle.std.specs.Prelude.{◌≡◌, ◌<◌, [], ◌∷◌, not, ◌&&◌, eqb};
 ghost use Rattle.record_writer.specs.Code.Writer.{displaced_by};
 ghost use Rattle.volume_entry.specs.Entry.{is_directory};

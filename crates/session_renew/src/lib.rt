@@ -1,4 +1,6 @@
 // "Renew clears its mark", once the program took all losses of its own operations (document 01, "Calls").
+#![tactic(auto)]
+
 ghost use Rattle.std.specs.Prelude.{◌≡◌, []};
 ghost use Rattle.session.specs.Call.{geometry, buffers};
 ghost use Rattle.session.specs.Call;

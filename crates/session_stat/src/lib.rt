@@ -1,4 +1,6 @@
 // "stat (kind, length, usage)" (document 01, "Calls").
+#![tactic(auto)]
+
 ghost use Rattle.std.specs.Prelude.{◌≡◌, [], ◌∷◌};
 ghost use Rattle.volume_questions.specs.Answer.{stat_number, stat_results};
 ghost use Rattle.session.specs.Call.{geometry, buffers};

@@ -9,7 +9,7 @@ use Rattle.log_rules.specs.Code.Slots.{Logged}
 use Rattle.session.specs.Call.{Geometry, Buffers, geometry, buffers, in_range, lengths_fit}
 use Rattle.session.specs.Model.{Model}
 use Rattle.session.specs.Step.{decode_model}
-use Rattle.session.specs.Laws.Step.{Holds}
+use Rattle.session.proofs.Laws.Step.{Holds}
 
 -- "1 Wrong buffer", then "2 Damaged: stored form broken"; 0 where neither holds
 unfoldable pub admission : Geometry → Buffers → ℕ

@@ -16,13 +16,13 @@ use Rattle.volume_tree.specs.Laws.Lent as LentLaws
 use Rattle.log_rules.specs.Slot.{Log}
 use Rattle.log_rules.specs.Stored.{log_bytes, lent_log, formed_log, decode_log, read_log}
 use Rattle.log_rules.specs.Code.Slots.{Logged}
-use Rattle.log_rules.specs.Laws.Stored as StoredLaws
+use Rattle.log_rules.proofs.Laws.Stored as StoredLaws
 use Rattle.log_form.specs.Laws.Form as FormLaws
 use Rattle.session.specs.Call.{Geometry, Buffers, Call, geometry, buffers, in_range, server_fits, lengths_fit}
 use Rattle.session.specs.Model.{Model, agreeing}
 use Rattle.session.specs.Step.{join_model, encode_model, decode_model, turned_down, on_model, step}
-use Rattle.session.specs.Laws.Edit.{objects-few, blocks-few}
-use Rattle.session.specs.Laws.Step.{Holds, model-stored, model-read}
+use Rattle.session.proofs.Laws.Edit.{objects-few, blocks-few}
+use Rattle.session.proofs.Laws.Step.{Holds, model-stored, model-read}
 use Rattle.session_admission.specs.Code.Admitted.{admission, model_in, Admitted}
 
 -- six tests, asked in two orders

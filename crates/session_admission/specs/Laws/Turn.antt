@@ -3,12 +3,12 @@ use Rattle.std.specs.Prelude.{ℕ, ◌≡◌, List, [], true}
 use Rattle.std.proofs.Common.{sym, ◌∙◌}
 use Rattle.session.specs.Call.{Call, Answer, geometry, buffers, refusal}
 use Rattle.session.specs.Refusal.{Row}
-use Rattle.session.specs.Model.{Model, unless, told_of}
+use Rattle.session.specs.Model.{unless, told_of}
 use Rattle.session.specs.Effect.{perform_all, accepted_effects, refused_effects}
 use Rattle.session.specs.Step.{answer_of, encode_model, turned_down, step}
 use Rattle.session.specs.Code.Table.{first_number, rising}
-use Rattle.session.specs.Laws.Table.{first-lowest, unless-refuses, unless-passes}
-use Rattle.session.specs.Laws.Outcome.{accepted-outcome, refused-outcome}
+use Rattle.session.proofs.Laws.Table.{first-lowest, unless-refuses, unless-passes}
+use Rattle.session.proofs.Laws.Outcome.{accepted-outcome, refused-outcome}
 use Rattle.session_admission.specs.Code.Admitted.{model_in, Admitted}
 
 module _ (n b m : ℕ) (s v l : List ℕ) (h : Admitted n b m s v l) (c : Call) (rows : List Row) (a : Answer)

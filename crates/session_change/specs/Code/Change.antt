@@ -11,9 +11,8 @@ use Rattle.session.specs.Refusal.{Row, row}
 use Rattle.session.specs.Model.{program_rows, room_for, told_of}
 use Rattle.session.specs.Issue.{operations_of}
 use Rattle.session.specs.Edit.{room_rows, change_rows}
-use Rattle.session.specs.Effect.{issuing}
 use Rattle.session.specs.Code.Table.{first_number, rising}
-use Rattle.session.specs.Laws.Issuing.{Issuing}
+use Rattle.session.proofs.Laws.Issuing.{Issuing}
 use Rattle.session_admission.specs.Code.Admitted.{model_in, Admitted}
 
 -- a table that is known by the number that it gives

@@ -19,7 +19,7 @@ use Rattle.session.specs.Model.{program_rows, room_for}
 use Rattle.session.specs.Edit.{room_rows, change_rows}
 use Rattle.session.specs.Step.{given, answer_of, step}
 use Rattle.session.specs.Code.Table.{first_number, rising}
-use Rattle.session.specs.Laws.Table.{first-left, first-right}
+use Rattle.session.proofs.Laws.Table.{first-left, first-right}
 use Rattle.session_admission.specs.Code.Admitted.{admission, model_in}
 use Rattle.session_admission.specs.Laws.Admitted.{not-admitted}
 use Rattle.session_admission.specs.Laws.Turn.{refused, answered}

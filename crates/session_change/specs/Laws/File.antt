@@ -7,7 +7,7 @@ use Rattle.volume_tree.specs.Volume.{Volume}
 use Rattle.session.specs.Refusal.{Row, row}
 use Rattle.session.specs.Edit.{file_rows}
 use Rattle.session.specs.Code.Table.{first_number}
-use Rattle.session.specs.Laws.Table.{first-left, first-right}
+use Rattle.session.proofs.Laws.Table.{first-left, first-right}
 
 module _ (v : Volume) (o : ℕ) where
   -- The object's own refusal is that of a table that asks more behind it, and where there is none a bad range refuses.

@@ -8,7 +8,7 @@ use Rattle.returned.specs.Shapes.{value}
 use Rattle.record.specs.Operation.{Operation, Record, record_of, operands}
 use Rattle.volume_tree.specs.Stored.{read_volume}
 use Rattle.log_rules.specs.Stored.{read_log}
-use Rattle.log_rules.specs.Laws.Slot.{formed-inv}
+use Rattle.log_rules.proofs.Laws.Slot.{formed-inv}
 use Rattle.session.specs.Class.{Change}
 use Rattle.session.specs.Call.{Issuer, change, geometry, buffers, answer}
 use Rattle.session.specs.Issue.{operations_of}
@@ -16,8 +16,8 @@ use Rattle.session.specs.Edit.{room_rows, change_rows}
 use Rattle.session.specs.Model.{Model, agreeing, with_view, with_log, program_rows, told_of}
 use Rattle.session.specs.Effect.{Effect, note, issue, perform, perform_all, issuing}
 use Rattle.session.specs.Step.{given, encode_model, step, answer_of}
-use Rattle.session.specs.Laws.Issue.{record-good}
-use Rattle.session.specs.Laws.Issuing.{Issuing, issuing-rest, issued-sound}
+use Rattle.session.proofs.Laws.Issue.{record-good}
+use Rattle.session.proofs.Laws.Issuing.{Issuing, issuing-rest, issued-sound}
 use Rattle.log_draft.specs.Code.Issued.{Issuable, Issued, Room, issued_all, applied_all, AllIssued}
 use Rattle.log_draft.specs.Laws.Issued.{issued-logged, issued-read, issued-formed, issued-view, one-issued, more-issued}
 use Rattle.session_admission.specs.Code.Admitted.{model_in, Admitted}

@@ -6,7 +6,7 @@ use Rattle.log_rules.specs.Change
 use Rattle.session.specs.Call.{geometry, buffers, answer, cut}
 use Rattle.session.specs.Effect.{perform, perform_all}
 use Rattle.session.specs.Step.{answer_of, given, step}
-use Rattle.session.specs.Laws.Outcome.{accepted-outcome}
+use Rattle.session.proofs.Laws.Outcome.{accepted-outcome}
 use Rattle.session_admission.specs.Code.Admitted.{model_in, Admitted}
 
 -- "Cut turns all waiting ones into lost ones, marks the dependents, and copies the server to the view."

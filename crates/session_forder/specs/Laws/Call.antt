@@ -6,17 +6,16 @@ use Rattle.record.specs.Fields.{objects_of}
 use Rattle.record_writer.specs.Code.Writer.{forder_record}
 use Rattle.volume_tree.specs.Stored.{encode_volume, read_volume}
 use Rattle.volume_tree.specs.Code.Lent.{Formed}
-use Rattle.volume_apply.specs.Laws.Apply.{apply-forder}
+use Rattle.volume_apply.proofs.Laws.Apply.{apply-forder}
 use Rattle.log_rules.specs.Stored.{read_log}
 use Rattle.log_draft.specs.Code.Issued.{Waits, Issued}
 use Rattle.session.specs.Class
 use Rattle.session.specs.Call.{Issuer, geometry}
-use Rattle.session.specs.Call
 use Rattle.session.specs.Edit.{forder_rows}
 use Rattle.session.specs.Step.{answer_of}
 use Rattle.session.specs.Code.Table.{first_number}
-use Rattle.session.specs.Laws.Issuing.{Issuing}
-use Rattle.session.specs.Laws.Edit.{forder-accepted}
+use Rattle.session.proofs.Laws.Issuing.{Issuing}
+use Rattle.session.proofs.Laws.Edit.{forder-accepted}
 use Rattle.session_admission.specs.Code.Admitted.{model_in, Admitted}
 use Rattle.session_change.specs.Code.Change.{change_number, ChangeBy}
 use Rattle.session_change.specs.Laws.Change.{change-accepted, change-own}

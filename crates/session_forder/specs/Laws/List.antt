@@ -16,14 +16,14 @@ use borrow.Author.Tests.{leb-true, leb-false, ltb-true, le-leb, lt-ltb, le-ltb, 
 use Rattle.buffer.specs.Laws.Test.{or_left, or_right}
 use Rattle.returned.specs.Returned
 use Rattle.record.specs.Fields.{valid_list, different, all_up_to, all_below, objects_of}
-use Rattle.record.specs.Laws.List.{count-objects}
+use Rattle.record.proofs.Laws.List.{count-objects}
 use Rattle.volume_entry.specs.Entry.{Entry, free, is_used}
 use Rattle.volume_tree.specs.Volume.{Volume}
 use Rattle.log_rules.specs.Order.{any}
 use Rattle.session.specs.Model.{outside, is_free}
 use Rattle.session.specs.Edit.{bad_list, forder_rows}
 use Rattle.session.specs.Code.Table.{first_number}
-use Rattle.session.specs.Laws.Refusal.{neither}
+use Rattle.session.proofs.Laws.Refusal.{neither}
 
 -- past the end of a volume nothing is used
 pub past-free : (v : Volume) (o : ℕ) → length v ≤ o → is_free v o ≡ true

@@ -18,7 +18,7 @@ use Rattle.log_rules.specs.Stored.{read_log}
 use Rattle.log_rules.specs.Order.{needed}
 use Rattle.log_rules.specs.Change.{waiting_of}
 use Rattle.log_rules.specs.Change
-use Rattle.log_rules.specs.Laws.Change.{note-good, noted-waiting, waiting-in-order}
+use Rattle.log_rules.proofs.Laws.Change.{note-good, noted-waiting, waiting-in-order}
 use Rattle.log_rules.specs.Sends.{applying, apply_all, sent_all}
 use Rattle.log_fsync.specs.declared.Synced.{Synced}
 use Rattle.log_fsync.specs.declared.Synced.TheVariants.{Sent, Stopped, Lost}
@@ -31,11 +31,11 @@ use Rattle.session.specs.Send.{sync_answer, fsync_of, sync_rows}
 use Rattle.session.specs.Effect.{Effect, note, discard, perform, perform_all, sends, effects_of, broken_sync}
 use Rattle.session.specs.Step.{answer_of, given, encode_model, step, turned_down}
 use Rattle.session.specs.Code.Table.{first_number}
-use Rattle.session.specs.Laws.Table.{first-lowest}
-use Rattle.session.specs.Laws.Refusal.{Passed, passed, lacks, never}
-use Rattle.session.specs.Laws.Outcome.{outcome}
-use Rattle.session.specs.Laws.Perform.{sends-performed}
-use Rattle.session.specs.Laws.Ready.{Ready, needed-ready, ready-take}
+use Rattle.session.proofs.Laws.Table.{first-lowest}
+use Rattle.session.proofs.Laws.Refusal.{Passed, passed, lacks, never}
+use Rattle.session.proofs.Laws.Outcome.{outcome}
+use Rattle.session.proofs.Laws.Perform.{sends-performed}
+use Rattle.session.proofs.Laws.Ready.{Ready, needed-ready, ready-take}
 use Rattle.session_admission.specs.Code.Admitted.{model_in, Admitted}
 use Rattle.session_admission.specs.Laws.Turn.{refused, answered}
 

@@ -8,7 +8,6 @@ use Rattle.volume_questions.specs.Answer.{list_of, list_answer, list_leaves, lis
 use Rattle.volume_questions.specs.Listing.{listing}
 use Rattle.session.specs.Call.{Answer, answer}
 use Rattle.session.specs.Call
-use Rattle.session.specs.Question as Question
 use Rattle.session.specs.Step.{answer_of}
 use Rattle.session_questions.specs.Code.Asked.{MayAsk}
 use Rattle.session_questions.specs.Laws.Noted.{Asks}

@@ -19,7 +19,6 @@ use Rattle.volume_lookup.specs.Laws.Lookup.{found_below}
 use Rattle.volume_lookup.specs.Code.Marks.{objects_marked}
 use Rattle.session.specs.Call.{Answer, answer}
 use Rattle.session.specs.Call
-use Rattle.session.specs.Question as Question
 use Rattle.session.specs.Step.{answer_of}
 use Rattle.session_questions.specs.Code.Asked.{MayAsk}
 use Rattle.session_questions.specs.Laws.Noted.{Asks}

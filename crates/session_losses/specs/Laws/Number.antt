@@ -5,8 +5,8 @@ use Rattle.std.proofs.lemmas.Bool.{not-false}
 use Rattle.session.specs.Refusal.{Row}
 use Rattle.session.specs.Model.{bad_program}
 use Rattle.session.specs.Code.Table.{first_number}
-use Rattle.session.specs.Laws.Table.{first-lowest, first-left, first-right}
-use Rattle.session.specs.Laws.Refusal.{passed}
+use Rattle.session.proofs.Laws.Table.{first-lowest, first-left, first-right}
+use Rattle.session.proofs.Laws.Refusal.{passed}
 
 -- A program that passed is one of the 32.
 pub number_small : (p : ℕ) → 0 ≡ first_number (bad_program p ∷ []) → p < 32

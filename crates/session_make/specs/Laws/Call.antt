@@ -6,7 +6,6 @@ use Rattle.std.proofs.Math.Bool.{true, false}
 use Rattle.record.specs.Operation.{Operation, record_of}
 use Rattle.record.specs.declared.kind.Kind.{Kind}
 use Rattle.record.specs.Kind.{map_of_kind}
-use Rattle.volume_tree.specs.Volume.{Volume}
 use Rattle.volume_tree.specs.Stored.{read_volume}
 use Rattle.record_writer.specs.Code.Writer.{entry_record}
 use Rattle.session.specs.Told.{Told}
@@ -15,8 +14,8 @@ use Rattle.session.specs.Issue.{issues}
 use Rattle.session.specs.Edit.{make_rows}
 use Rattle.session.specs.Step.{answer_of}
 use Rattle.session.specs.Code.Table.{first_number}
-use Rattle.session.specs.Laws.Edit.{create-accepted, make-accepted}
-use Rattle.session.specs.Laws.Issuing.{Issuing}
+use Rattle.session.proofs.Laws.Edit.{create-accepted, make-accepted}
+use Rattle.session.proofs.Laws.Issuing.{Issuing}
 use Rattle.session_admission.specs.Code.Admitted.{model_in, Admitted}
 use Rattle.session_change.specs.Code.Change.{ChangeBy}
 use Rattle.session_make.specs.Code.Make.{make_change, make_call, make_kind}

@@ -13,10 +13,10 @@ use Rattle.volume_tree.specs.Code.Lent.{Lent}
 use Rattle.volume_tree.specs.Laws.Lent.{lent-inv, formed-decode}
 use Rattle.log_rules.specs.Slot.{empty_log}
 use Rattle.log_rules.specs.Stored.{next_at, head_bytes, log_bytes, slot_bytes, lent_log, encode_slots, encode_log}
-use Rattle.log_rules.specs.Laws.Head.{empty-head}
+use Rattle.log_rules.proofs.Laws.Head.{empty-head}
 use Rattle.log_form.specs.Laws.Form as FormLaws
 use Rattle.session.specs.Call.{Geometry, Buffers, geometry, buffers, in_range, server_fits, lengths_fit}
-use Rattle.session.specs.Laws.Geometry.{range-lent}
+use Rattle.session.proofs.Laws.Geometry.{range-lent}
 use Rattle.session.specs.Step.{given, format, format_leaves, mount}
 use Rattle.session_admission.specs.Laws.Admitted.{lengths-lent}
 

@@ -4,7 +4,7 @@ use Rattle.std.proofs.Common.{arith, sym, ap, ◌∙◌, length-drop, take_all}
 use Rattle.std.proofs.Math.Seq.{take-nil, drop-nil}
 use Rattle.record.specs.Operation.{Operation}
 use Rattle.session.specs.Issue.{writes_at}
-use Rattle.session.specs.Laws.Write.{writes-append, writes-overwrite, writes-both}
+use Rattle.session.proofs.Laws.Write.{writes-append, writes-overwrite, writes-both}
 
 module _ (len o f : ℕ) where
   -- No bytes, no operation.

@@ -22,11 +22,11 @@ use Rattle.session.specs.Call.{geometry, buffers, push, answer}
 use Rattle.session.specs.Model.{Model, unless}
 use Rattle.session.specs.Send.{push_of}
 use Rattle.session.specs.Effect.{perform_all}
-use Rattle.session.specs.Laws.Effect.{send-is}
+use Rattle.session.proofs.Laws.Effect.{send-is}
 use Rattle.session.specs.Step.{answer_of, given, encode_model, step}
 use Rattle.session.specs.Code.Table.{first_number}
-use Rattle.session.specs.Laws.Answer.{push_rows, push_answer}
-use Rattle.session.specs.Laws.Outcome.{accepted-outcome, refused-outcome}
+use Rattle.session.proofs.Laws.Answer.{push_rows, push_answer}
+use Rattle.session.proofs.Laws.Outcome.{accepted-outcome, refused-outcome}
 use Rattle.session_admission.specs.Code.Admitted.{model_in, Admitted}
 use Rattle.session_admission.specs.Laws.Turn.{refused, answered}
 

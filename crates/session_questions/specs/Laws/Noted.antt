@@ -10,14 +10,14 @@ use borrow.Author.Tests.{eqb-true, eqb-false, ne_eqb, ltb-true}
 use Rattle.returned.specs.Returned
 use Rattle.log_rules.specs.Programs.{holds}
 use Rattle.log_rules.specs.Stored.{encode_log, read_log}
-use Rattle.log_rules.specs.Laws.Geometry.{logged-most}
+use Rattle.log_rules.proofs.Laws.Geometry.{logged-most}
 use Rattle.log_rules.specs.Change
 use Rattle.session.specs.Call.{Call, Answer, geometry, buffers, refusal, answer}
 use Rattle.session.specs.Model.{unless, program_rows, told_of}
 use Rattle.session.specs.Effect.{Effect, note, perform, perform_all, accepted_effects, refused_effects, effects_of}
 use Rattle.session.specs.Step.{answer_of, encode_model, turned_down, given, step}
 use Rattle.session.specs.Code.Table.{first_number}
-use Rattle.session.specs.Laws.Outcome.{outcome}
+use Rattle.session.proofs.Laws.Outcome.{outcome}
 use Rattle.session_admission.specs.Code.Admitted.{admission, model_in}
 use Rattle.session_admission.specs.Laws.Admitted.{admitted, not-admitted}
 use Rattle.session_admission.specs.Laws.Turn.{refused, answered, accepted}

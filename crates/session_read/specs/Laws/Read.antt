@@ -8,7 +8,6 @@ use Rattle.volume_questions.specs.declared.object.Object.{Object}
 use Rattle.volume_questions.specs.Answer.{read_of, read_answer, read_leaves, read_number, read_results}
 use Rattle.session.specs.Call.{Answer, answer}
 use Rattle.session.specs.Call
-use Rattle.session.specs.Question as Question
 use Rattle.session.specs.Step.{answer_of}
 use Rattle.session_questions.specs.Code.Asked.{MayAsk}
 use Rattle.session_questions.specs.Laws.Noted.{Asks}

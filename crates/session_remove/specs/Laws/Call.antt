@@ -7,7 +7,7 @@ use Rattle.std.proofs.Math.Option.{Option, some}
 use Rattle.std.proofs.Math.ListN.{length}
 use Rattle.record.specs.Operation.{Operation, record_of}
 use Rattle.record.specs.declared.kind.Kind.TheVariants.{Remove}
-use Rattle.volume_tree.specs.Volume.{Volume, search}
+use Rattle.volume_tree.specs.Volume.{search}
 use Rattle.volume_tree.specs.Stored.{read_volume}
 use Rattle.record_writer.specs.Code.Writer.{entry_record}
 use Rattle.session.specs.Told.{Told}
@@ -16,8 +16,8 @@ use Rattle.session.specs.Call.{Issuer, geometry}
 use Rattle.session.specs.Issue.{issues, on_found, removes}
 use Rattle.session.specs.Edit.{changed, remove_rows}
 use Rattle.session.specs.Step.{answer_of}
-use Rattle.session.specs.Laws.Edit.{remove-accepted}
-use Rattle.session.specs.Laws.Issuing.{Issuing}
+use Rattle.session.proofs.Laws.Edit.{remove-accepted}
+use Rattle.session.proofs.Laws.Issuing.{Issuing}
 use Rattle.session_admission.specs.Code.Admitted.{model_in, Admitted}
 use Rattle.session_change.specs.Code.Change.{ChangeBy}
 use Rattle.session_names.specs.Code.Rows.{Finds}

@@ -14,8 +14,8 @@ use Rattle.session.specs.Call
 use Rattle.session.specs.Call.{Issuer, Call, geometry}
 use Rattle.session.specs.Issue.{issues, on_found, displaced}
 use Rattle.session.specs.Step.{answer_of}
-use Rattle.session.specs.Laws.Edit.{rename-accepted}
-use Rattle.session.specs.Laws.Issuing.{Issuing}
+use Rattle.session.proofs.Laws.Edit.{rename-accepted}
+use Rattle.session.proofs.Laws.Issuing.{Issuing}
 use Rattle.session_admission.specs.Code.Admitted.{model_in, Admitted}
 use Rattle.session_change.specs.Code.Change.{ChangeBy}
 use Rattle.session_rename.specs.Code.Rename.{Moves}

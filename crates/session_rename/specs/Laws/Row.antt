@@ -14,7 +14,7 @@ use Rattle.session.specs.Refusal.{Row, row, lower}
 use Rattle.session.specs.Model.{is_bad, is_long, outside, is_free}
 use Rattle.session.specs.Edit.{of_found, wrong_rename, rename_rows}
 use Rattle.session.specs.Code.Table.{first_number}
-use Rattle.session.specs.Laws.Refusal.{lower-is}
+use Rattle.session.proofs.Laws.Refusal.{lower-is}
 use Rattle.session_admission.specs.Code.Objects.{directory_rows}
 use Rattle.session_change.specs.Laws.Change.{stops_first, goes_on}
 use Rattle.session_names.specs.Code.Rows.{text_rows, found_rows, Finds}

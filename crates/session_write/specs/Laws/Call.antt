@@ -5,12 +5,11 @@ use Rattle.volume_tree.specs.Stored.{read_volume}
 use Rattle.log_rules.specs.Stored.{read_log}
 use Rattle.session.specs.Class
 use Rattle.session.specs.Call.{Issuer, geometry}
-use Rattle.session.specs.Call
 use Rattle.session.specs.Issue.{writes}
 use Rattle.session.specs.Edit.{write_rows}
 use Rattle.session.specs.Step.{answer_of}
 use Rattle.session.specs.Code.Table.{first_number}
-use Rattle.session.specs.Laws.Edit.{write-some, write-accepted}
+use Rattle.session.proofs.Laws.Edit.{write-some, write-accepted}
 use Rattle.session_admission.specs.Code.Admitted.{model_in, Admitted}
 use Rattle.session_change.specs.Code.Change.{change_number, ChangeBy, MayIssue}
 use Rattle.session_change.specs.Laws.Change.{change-accepted}

@@ -1,0 +1,10 @@
+-- `session_admission::object::object_refusal` meets its contract. Assumes nothing.
+use mathlib.Core.Path.{◌∙◌}
+use Rattle.volume_tree.specs.Stored.{read_volume}
+use Rattle.session_admission.specs.Laws.Object.{named-object}
+use Rattle.session_admission.proofs.object.object_refusal.Goals as goal
+
+pub returns : goal.returns
+returns c =
+    let a = c.args in
+    c.named_refusal.ensures ∙ named-object (read_volume a.n a.b a.view.now) a.object
