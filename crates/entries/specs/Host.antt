@@ -1,4 +1,4 @@
--- The claim on the exported entries: what holds of the calls that a host in C makes from an accepted `wb_mount` on, of two such lists, and of
+-- The claim on the entries: what holds of the calls that a host in C makes from an accepted `wb_mount` on, of two such lists, and of
 -- one call on any buffers.
 use Rattle.std.specs.Prelude.{ℕ, ◌≡◌, ◌↔◌, true}
 use mathlib.Core.List.{List, map, Memᴰ}

@@ -3,5 +3,3 @@ pub mod Observed
 pub mod Table
 pub mod Host
 pub mod Ran
-pub mod Called
-pub mod Laws

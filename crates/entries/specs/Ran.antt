@@ -6,7 +6,7 @@ use base.Logic.{SProp, sep}
 use prog.Memory.{Memory}
 use prog.Machine.{done}
 use prog.Model.{Model}
-use prog.Routine.{Routine}
+use prog.Routine.{Routine, step}
 use types.Logic.{Logic, sem}
 use contract.Adequate.{Satisfies}
 use denote.Triple.Entry.{Res}
@@ -24,7 +24,7 @@ module _ {M : Type 1} {𝓤 : Ura M} (𝓛 : Logic 𝓤) (𝓜 : Model 𝓤 𝓛
     pub fuel : ℕ
     pub value : Val
     pub memory : Memory
-    pub ends : f.step fuel (passed 𝓛 T.signature x) σ ≡ done (value, memory)
+    pub ends : step f fuel (passed 𝓛 T.signature x) σ ≡ done (value, memory)
     pub result : Res T.signature x.0
     pub left : Lasts T x.0 x.3
     pub owned : Satisfies 𝓤 H 𝓜 memory (sep 𝓤 (sem 𝓛 (lasts T x.0 x.3 left)) (sep 𝓤 (Back 𝓛 T.signature x value result) F))

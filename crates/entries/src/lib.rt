@@ -1,1 +1,2 @@
-// The claim on the exported entries themselves: definitions and proofs alone, in specs/.
+// The claim on the entries themselves: definitions in specs/, and the table with its laws in proofs/.
+#![tactic(auto)]

@@ -56,7 +56,7 @@ pub data Depends (r : Register) (p : ℕ) (a : Acknowledged) : Type 0 where
 abbrev pub IsSince : Register → ℕ → ℕ → Type 0
 IsSince r p time = (n : Renewal) → Memᴰ n r.renewals → n.program ≡ p → n.time < time
 
--- a program is marked if it depended on something discarded IsSince mount or its last renewal
+-- a program is marked if it depended on something discarded since mount or its last renewal
 pub record Marked (r : Register) (p : ℕ) : Type 0 where
   pub on : Acknowledged
   pub acknowledged : Is on r

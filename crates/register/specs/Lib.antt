@@ -9,5 +9,4 @@ pub mod Claim
 pub mod Across
 pub mod Spelling
 pub mod Removal
-pub mod Laws
 pub mod Entries

@@ -1,1 +1,2 @@
-// The register (document 01, "The register"): definitions and proofs alone, in specs/.
+// The register (document 01, "The register"): definitions in specs/ and laws in proofs/ alone.
+#![tactic(auto)]

@@ -1,5 +1,7 @@
-// The entries for a host in C, declared and described in include/writebehind.h: each hands its numbers and buffers to one proved
-// function, and its contract says by `step` what every result and every byte is, for any numbers and buffers.
+// The entries, which crate writebehind_c exports to a host in C: each hands its numbers and buffers to one proved function, and its
+// contract says by `step` what every result and every byte is, for any numbers and buffers.
+#![tactic(auto)]
+
 ghost use Rattle.std.specs.Prelude.{◌≡◌, [], ◌∷◌, drop};
 ghost use Rattle.record.specs.Decode.{decode_record};
 ghost use Rattle.session.specs.Call.{geometry, buffers, issuer};
@@ -13,8 +15,7 @@ use crate::loss::{Loss, loss_at};
 use returned::{Code, Status, Value};
 
 // "Format makes a server volume with only a root."
-#[unsafe(no_mangle)]
-pub extern "C" fn wb_format(n: u64, b: u64, m: u64, server: &mut [u8]) -> Code
+pub fn wb_format(n: u64, b: u64, m: u64, server: &mut [u8]) -> Code
     ensures returned { result.returned ≡ format (geometry n b m) server.old }
     ensures volume { server.new ≡ format_leaves (geometry n b m) server.old }
 {
@@ -22,15 +23,7 @@ pub extern "C" fn wb_format(n: u64, b: u64, m: u64, server: &mut [u8]) -> Code
 }
 
 // "Mount checks the server volume, copies it to the view and begins an empty log".
-#[unsafe(no_mangle)]
-pub extern "C" fn wb_mount(
-    n: u64,
-    b: u64,
-    m: u64,
-    server: &[u8],
-    view: &mut [u8],
-    log: &mut [u8],
-) -> Code
+pub fn wb_mount(n: u64, b: u64, m: u64, server: &[u8], view: &mut [u8], log: &mut [u8]) -> Code
     ensures { given result.returned [] [] (buffers server.now view.new log.new)
         ≡ mount (geometry n b m) (buffers server.now view.old log.old) }
 {
@@ -38,8 +31,7 @@ pub extern "C" fn wb_mount(
 }
 
 // "Lookup alone takes a path and gives an object number."
-#[unsafe(no_mangle)]
-pub extern "C" fn wb_lookup(
+pub fn wb_lookup(
     n: u64,
     b: u64,
     m: u64,
@@ -65,8 +57,7 @@ pub extern "C" fn wb_lookup(
 }
 
 // The children of a directory, into a buffer.
-#[unsafe(no_mangle)]
-pub extern "C" fn wb_list(
+pub fn wb_list(
     n: u64,
     b: u64,
     m: u64,
@@ -94,8 +85,7 @@ pub extern "C" fn wb_list(
 }
 
 // Kind, length and usage of an object.
-#[unsafe(no_mangle)]
-pub extern "C" fn wb_stat(
+pub fn wb_stat(
     n: u64,
     b: u64,
     m: u64,
@@ -121,8 +111,7 @@ pub extern "C" fn wb_stat(
 }
 
 // Bytes of a file, into a buffer.
-#[unsafe(no_mangle)]
-pub extern "C" fn wb_read(
+pub fn wb_read(
     n: u64,
     b: u64,
     m: u64,
@@ -152,8 +141,7 @@ pub extern "C" fn wb_read(
 }
 
 // An empty file.
-#[unsafe(no_mangle)]
-pub extern "C" fn wb_create(
+pub fn wb_create(
     n: u64,
     b: u64,
     m: u64,
@@ -183,8 +171,7 @@ pub extern "C" fn wb_create(
 }
 
 // An empty directory.
-#[unsafe(no_mangle)]
-pub extern "C" fn wb_mkdir(
+pub fn wb_mkdir(
     n: u64,
     b: u64,
     m: u64,
@@ -214,8 +201,7 @@ pub extern "C" fn wb_mkdir(
 }
 
 // "Remove file takes only files" (document 02, K4).
-#[unsafe(no_mangle)]
-pub extern "C" fn wb_remove_file(
+pub fn wb_remove_file(
     n: u64,
     b: u64,
     m: u64,
@@ -243,8 +229,7 @@ pub extern "C" fn wb_remove_file(
 }
 
 // "remove directory only empty directories" (document 02, K4).
-#[unsafe(no_mangle)]
-pub extern "C" fn wb_remove_directory(
+pub fn wb_remove_directory(
     n: u64,
     b: u64,
     m: u64,
@@ -272,8 +257,7 @@ pub extern "C" fn wb_remove_directory(
 }
 
 // "Rename replaces a file by a file or an empty directory by a directory."
-#[unsafe(no_mangle)]
-pub extern "C" fn wb_rename(
+pub fn wb_rename(
     n: u64,
     b: u64,
     m: u64,
@@ -305,8 +289,7 @@ pub extern "C" fn wb_rename(
 }
 
 // An overwrite or an append, in one block.
-#[unsafe(no_mangle)]
-pub extern "C" fn wb_write(
+pub fn wb_write(
     n: u64,
     b: u64,
     m: u64,
@@ -336,8 +319,7 @@ pub extern "C" fn wb_write(
 }
 
 // "Set length zeroes what it cuts off or adds."
-#[unsafe(no_mangle)]
-pub extern "C" fn wb_setlen(
+pub fn wb_setlen(
     n: u64,
     b: u64,
     m: u64,
@@ -365,8 +347,7 @@ pub extern "C" fn wb_setlen(
 }
 
 // A forder on a list of objects, "2 bytes an object".
-#[unsafe(no_mangle)]
-pub extern "C" fn wb_forder(
+pub fn wb_forder(
     n: u64,
     b: u64,
     m: u64,
@@ -392,8 +373,7 @@ pub extern "C" fn wb_forder(
 }
 
 // "Push sends the waiting operation of a given sequence number and frees its slot."
-#[unsafe(no_mangle)]
-pub extern "C" fn wb_push(
+pub fn wb_push(
     n: u64,
     b: u64,
     m: u64,
@@ -417,8 +397,7 @@ pub extern "C" fn wb_push(
 }
 
 // "Fsync names an object and the sends k that the link still carries."
-#[unsafe(no_mangle)]
-pub extern "C" fn wb_fsync(
+pub fn wb_fsync(
     n: u64,
     b: u64,
     m: u64,
@@ -446,15 +425,7 @@ pub extern "C" fn wb_fsync(
 }
 
 // "Cut turns all waiting ones into lost ones, marks the dependents, and copies the server to the view."
-#[unsafe(no_mangle)]
-pub extern "C" fn wb_cut(
-    n: u64,
-    b: u64,
-    m: u64,
-    server: &[u8],
-    view: &mut [u8],
-    log: &mut [u8],
-) -> Code
+pub fn wb_cut(n: u64, b: u64, m: u64, server: &[u8], view: &mut [u8], log: &mut [u8]) -> Code
     ensures { given result.returned [] [] (buffers server.now view.new log.new)
         ≡ step (geometry n b m) (Call.cut) (buffers server.now view.old log.old) }
 {
@@ -462,8 +433,7 @@ pub extern "C" fn wb_cut(
 }
 
 // "Take writes the earliest loss of a program and frees its slot."
-#[unsafe(no_mangle)]
-pub extern "C" fn wb_take(
+pub fn wb_take(
     n: u64,
     b: u64,
     m: u64,
@@ -489,8 +459,7 @@ pub extern "C" fn wb_take(
 }
 
 // "Renew clears its mark."
-#[unsafe(no_mangle)]
-pub extern "C" fn wb_renew(
+pub fn wb_renew(
     n: u64,
     b: u64,
     m: u64,
@@ -514,8 +483,7 @@ pub extern "C" fn wb_renew(
 }
 
 // The record reader, at any place of any buffer.
-#[unsafe(no_mangle)]
-pub extern "C" fn wb_record(at: u64, buffer: &[u8]) -> Loss
+pub fn wb_record(at: u64, buffer: &[u8]) -> Loss
     ensures { result ≡ loss_of at (decode_record (drop at buffer.now)) }
 {
     loss_at(at as usize, buffer)

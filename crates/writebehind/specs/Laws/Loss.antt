@@ -5,7 +5,7 @@ use Rattle.std.proofs.Math.Option.{Option, none, some}
 use Rattle.record.specs.Operation.{Record}
 use Rattle.record.specs.Fields.{valid, encode}
 use Rattle.record.specs.Decode.{decode_record}
-use Rattle.record.specs.Laws.Decode.{decode-sound, decode-encoded}
+use Rattle.record.proofs.Laws.Decode.{decode-sound, decode-encoded}
 use Rattle.record_reader.specs.declared.Reading.{Reading}
 use Rattle.record_reader.specs.declared.Reading.TheVariants.{Is, Bad}
 use Rattle.record_reader.specs.Answer.{whole_of, Exact, read, refused}

@@ -1,0 +1,5 @@
+pub mod Runs
+pub mod Host
+pub mod Called
+pub mod Wired
+pub mod Linked
