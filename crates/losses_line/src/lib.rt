@@ -1,4 +1,6 @@
 // The lines that the program `losses` prints: that of a record, and that of a bad one.
+#![tactic(auto)]
+
 ghost use Rattle.std.specs.Prelude.{◌+◌, ◌≤◌, length};
 ghost use Rattle.buffer.specs.Patch.{Put};
 ghost use Rattle.losses_line.specs.Line.{with_end, line, bad_line};

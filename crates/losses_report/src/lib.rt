@@ -1,5 +1,7 @@
 // What the program `losses` prints of the bytes that are at hand: a line for each record, and one for a bad record. All on
 // lent slices; reading and writing are the program's.
+#![tactic(auto)]
+
 ghost use Rattle.std.specs.Prelude.{◌+◌, ◌*◌, ◌<◌, ◌≤◌, ◌^◌, length};
 ghost use Rattle.losses_report.specs.Pass.{Passed};
 
@@ -10,7 +12,7 @@ use record_reader::{Place, Reading};
 pub const LONGEST: usize = 1040;
 
 // What is to be done after a pass.
-#[derive(Drop)]
+#[derive(Clone, Copy)]
 pub enum State {
     // More input is wanted: the bytes that are left may be the start of a record.
     Going,
@@ -19,7 +21,7 @@ pub enum State {
 }
 
 // How many bytes of the input were passed, how many of the output were written, and how it goes on.
-#[derive(Drop)]
+#[derive(Clone, Copy)]
 pub struct Progress {
     pub next: usize,
     pub written: usize,

@@ -10,7 +10,7 @@ use writebehind::{
 };
 
 // The numbers passed in every call.
-#[derive(Drop)]
+#[derive(Clone, Copy)]
 pub struct Given {
     pub n: u64,
     pub b: u64,

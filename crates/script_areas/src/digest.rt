@@ -2,8 +2,6 @@
 ghost use Rattle.std.specs.Prelude.{◌≡◌, ◌*◌, ◌%◌, ◌^◌};
 ghost use Rattle.script_areas.specs.Digest.{prime, offset, digest_from};
 
-use std::num::wrapping_add_u64;
-
 // A number times the prime 2^40 + 435, modulo 2^64: the parts of the product that stay within 64 bits are added.
 fn times_prime(h: u64) -> u64
     ensures { result ≡ h * prime % 2 ^ 64 }
@@ -11,7 +9,7 @@ fn times_prime(h: u64) -> u64
     let low = h % 4294967296 * 435;
     let high = h / 4294967296 * 435 % 4294967296 * 4294967296;
     let shifted = h % 16777216 * 1099511627776;
-    wrapping_add_u64(wrapping_add_u64(low, high), shifted)
+    low.wrapping_add(high).wrapping_add(shifted)
 }
 
 fn wide(b: u8) -> u64

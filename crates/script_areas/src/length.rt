@@ -13,7 +13,7 @@ const LOG_HEAD: u64 = 8;
 const SLOT: u64 = 1048;
 
 // The lengths lent of the areas; `Over` where one exceeds an area.
-#[derive(Drop)]
+#[derive(Clone, Copy)]
 pub enum Lengths {
     Are(usize, usize, usize),
     Over,

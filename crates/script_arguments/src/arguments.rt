@@ -120,7 +120,7 @@ fn read_words(
 }
 
 // The kinds of the words that a command wants: the first `count` of five letters.
-#[derive(Drop)]
+#[derive(Clone, Copy)]
 struct Kinds {
     count: usize,
     letters: [u8; 5],

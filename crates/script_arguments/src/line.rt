@@ -10,7 +10,7 @@ use script_words::word::until;
 pub const LONGEST: usize = 8191;
 
 // A line read: whether it is empty or a comment; if not, its command and the arguments, which say whether the line is good.
-#[derive(Drop)]
+#[derive(Clone, Copy)]
 pub struct Read {
     pub empty: bool,
     pub command: Command,

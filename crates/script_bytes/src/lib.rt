@@ -1,10 +1,12 @@
 // A word of a call script as bytes, and bytes printed.
+#![tactic(auto)]
+
 ghost use Rattle.std.specs.Prelude.{◌≡◌, ℕ, ◌+◌, ◌*◌, ◌<◌, ◌≤◌, length, ◌∷◌};
 ghost use Rattle.buffer.specs.Patch.{patch};
 ghost use Rattle.script_bytes.specs.Bytes.{hex_digit, hex, BytesOf};
 
 // What a word is as bytes: so many, or none at all.
-#[derive(Drop)]
+#[derive(Clone, Copy)]
 pub enum Bytes {
     Are(usize),
     Refused,

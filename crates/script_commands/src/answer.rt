@@ -6,7 +6,7 @@ use script_bytes::put_hex;
 use script_words::number::put_number;
 
 // The numbers that a call prints, the first `count` of five; `shown` says that the buffer follows.
-#[derive(Drop)]
+#[derive(Clone, Copy)]
 pub struct Answer {
     pub count: usize,
     pub numbers: [u64; 5],

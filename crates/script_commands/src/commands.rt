@@ -10,7 +10,7 @@ use script_areas::length::{Lengths, lent_lengths, log_bytes, volume_bytes};
 use script_words::command::{Arguments, Command};
 
 // What stays from line to line: the numbers passed in every call, and the lengths lent.
-#[derive(Drop)]
+#[derive(Clone, Copy)]
 pub struct State {
     pub n: u64,
     pub b: u64,
@@ -21,7 +21,7 @@ pub struct State {
 }
 
 // A line played: whether it is bad, how many bytes it prints, and what stays.
-#[derive(Drop)]
+#[derive(Clone, Copy)]
 pub struct Played {
     pub bad: bool,
     pub written: usize,

@@ -16,7 +16,7 @@ pub fn front(n: usize, s: &[u8]) -> usize
 }
 
 // How many bytes are lent of each area, and of each buffer.
-#[derive(Drop)]
+#[derive(Clone, Copy)]
 pub struct Parts {
     pub server: usize,
     pub view: usize,

@@ -1,17 +1,18 @@
 // One line played, up to the call that it makes.
-ghost use Rattle.std.specs.Prelude.{◌≡◌, ◌≤◌, length};
+ghost use Rattle.std.specs.Prelude.{◌≡◌, ◌≤◌, OnOk, length};
 ghost use Rattle.script_commands.specs.Room.{Areas, Room};
+ghost use Rattle.script_player.specs.Line.{Grown};
 
-use libc::STDOUT_FILENO;
 use script_arguments::line::{Read, read_line};
 use script_commands::answer::{Answer, put_answer, put_bad};
 use script_commands::commands::{Played, State, play_areas, printed, refused};
 use script_commands::front::front;
 use script_words::command::{Arguments, Command, is_call};
+use std::io::{self, Write};
 
 // A line played: whether its call is still to be made, with the command and the arguments; whether the script goes on, and
 // what stays.
-#[derive(Drop)]
+#[derive(Clone, Copy)]
 pub struct Turn {
     pub call: bool,
     pub command: Command,
@@ -93,21 +94,26 @@ fn play_read(
     passed(r, st)
 }
 
-// Writes what a line prints, `bad line` and its number too, and says whether the script goes on.
-fn tell(p: Played, number: u64, out: &mut [u8]) -> bool
+// Writes what a line prints, `bad line` and its number too, and says whether the script goes on. Fails where the write does, with
+// the write's error; what the output then holds is for the writer to say.
+fn tell<W: Write>(output: &mut W, p: Played, number: u64, out: &mut [u8]) -> io::Result<bool>
     requires { (p.written ≤ length out.old) × (4352 ≤ length out.old) }
+    ensures { OnOk result (Grown (W.contents output.old) (W.contents output.new)) }
 {
     if p.bad {
         let end = put_bad(number, out);
-        io::write_all(STDOUT_FILENO, &out[..end]);
-        return false;
+        output.write_all(&out[..end])?;
+        return Ok(false);
     }
     let written = p.written;
-    io::write_all(STDOUT_FILENO, &out[..written])
+    output.write_all(&out[..written])?;
+    Ok(true)
 }
 
-// Plays a line, given with its number and without its newline.
-pub fn play(
+// Plays a line, given with its number and without its newline. Fails where what it prints cannot be written, with the write's
+// error: its command has been played then as on `Ok`, and what the output holds is for the writer to say.
+pub fn play<W: Write>(
+    output: &mut W,
     line: &[u8],
     number: u64,
     st: State,
@@ -116,8 +122,10 @@ pub fn play(
     l: &mut [u8],
     first: &mut [u8],
     second: &mut [u8],
-) -> Turn
+) -> io::Result<Turn>
     requires { Areas s.old v.old l.old × Room first.old second.old }
+    ensures printed { OnOk result (Grown (W.contents output.old) (W.contents output.new)) }
+    ensures left { Areas s.new v.new l.new × Room first.new second.new }
 {
     let mut out = [0u8; 4352];
     let r = read_line(line, first, second);
@@ -125,21 +133,29 @@ pub fn play(
     let a = r.arguments;
     let p = play_read(r, st, s, v, l, first, &mut out);
     let state = p.state;
-    Turn {
+    let going = tell(output, p, number, &mut out)?;
+    Ok(Turn {
         call: calls(r),
         command: c,
         arguments: a,
-        going: tell(p, number, &mut out),
+        going: going,
         state: state,
-    }
+    })
 }
 
-// Writes the line of a call, which shows so many bytes of its buffer, and says whether it was written.
-pub fn tell_answer(answer: Answer, shown: usize, buffer: &[u8]) -> bool
+// Writes the line of a call, which shows so many bytes of its buffer. Fails where it cannot be written, with the write's error; it
+// changes the output alone, and what that then holds is for the writer to say.
+pub fn tell_answer<W: Write>(
+    output: &mut W,
+    answer: Answer,
+    shown: usize,
+    buffer: &[u8],
+) -> io::Result<()>
     requires { length buffer.now ≤ 2048 }
+    ensures { OnOk result (Grown (W.contents output.old) (W.contents output.new)) }
 {
     let mut out = [0u8; 4352];
     let n = front(shown, buffer);
     let end = put_answer(answer, &buffer[..n], &mut out);
-    io::write_all(STDOUT_FILENO, &out[..end])
+    output.write_all(&out[..end])
 }

@@ -1,7 +1,7 @@
 // The commands of a script, and the arguments that a line gives them.
 
 // The commands of the script format; `Unknown` is none of them.
-#[derive(Drop)]
+#[derive(Clone, Copy)]
 pub enum Command {
     Give,
     Size,
@@ -62,7 +62,7 @@ pub fn takes_bytes(c: Command) -> bool {
 
 // The arguments of a line in their order: up to three numbers, where an area counts as the number 0, 1 or 2, and the counts of up to
 // two stretches of bytes. `good` says that every word so far was what the command wants.
-#[derive(Drop)]
+#[derive(Clone, Copy)]
 pub struct Arguments {
     pub good: bool,
     pub numbers: usize,

@@ -7,7 +7,7 @@ ghost use Rattle.script_words.specs.Number.{NumberOf};
 use text::decimal::put_decimal;
 
 // What a word is as a number.
-#[derive(Drop)]
+#[derive(Clone, Copy)]
 pub enum Number {
     Is(u64),
     Refused,

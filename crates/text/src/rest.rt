@@ -6,8 +6,8 @@ ghost use Rattle.buffer.specs.Patch.{patch};
 // again.
 pub fn keep_rest(buf: &mut [u8], from: usize, to: usize)
     requires { (from ≤ to) × (to ≤ length buf.old) }
-    ensures buf_after { buf.new ≡ patch buf.old 0 (take (to - from) (drop from buf.old)) }
-    ensures buf_after_2 { take (to - from) buf.new ≡ drop from (take to buf.old) }
+    ensures moved { buf.new ≡ patch buf.old 0 (take (to - from) (drop from buf.old)) }
+    ensures kept { take (to - from) buf.new ≡ drop from (take to buf.old) }
 {
     let n = to - from;
     let mut i = 0;

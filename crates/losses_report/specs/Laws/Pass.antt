@@ -17,7 +17,7 @@ use Rattle.record.specs.Fields.{encode, valid, between, valid_head}
 use Rattle.record_reader.specs.Code.Reader.{record_at}
 use Rattle.record_reader.specs.Answer.{whole_of, Exact, read, refused}
 use Rattle.record_reader.specs.Laws.Exact.{exact}
-use Rattle.record.specs.Laws.Record.{valid-inv, encode-length}
+use Rattle.record.proofs.Laws.Record.{valid-inv, encode-length}
 use Rattle.losses_report.specs.declared.State.{State}
 use Rattle.losses_report.specs.declared.State.TheVariants.{Going, Done}
 use Rattle.losses_line.specs.Line.{line, bad_line}

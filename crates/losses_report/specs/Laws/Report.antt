@@ -1,5 +1,5 @@
 -- What passes tell is the report of the whole input, and a report and a pass are each the only one of their bytes.
-use Rattle.std.specs.Prelude.{ℕ, zero, suc, ◌+◌, ◌-◌, ◌≤◌, ◌<◌, ◌≡◌, refl, List, [], ◌∷◌, ◌++◌, Bool, true, false, length, get_or, take, drop}
+use Rattle.std.specs.Prelude.{ℕ, zero, suc, ◌+◌, ◌≤◌, ◌<◌, ◌≡◌, refl, List, [], ◌∷◌, ◌++◌, Bool, true, false, length, get_or, take, drop}
 use Rattle.std.proofs.Common.{arith, ap, sym, ◌∙◌, subst, append_assoc, append-nil, length-append, take-append-drop, get_or-append-add}
 use Rattle.std.proofs.Math.Seq.{drop-append-add, take-append_seam}
 use Rattle.std.proofs.lemmas.List.{take-append-le}
@@ -9,9 +9,9 @@ use Rattle.record_reader.specs.declared.Reading.{Reading}
 use Rattle.buffer.specs.Numeral.{Bytes}
 use Rattle.record_reader.specs.Code.Reader.{record_at}
 use Rattle.record_reader.specs.Answer.{Exact, read, refused}
-use Rattle.record.specs.Laws.Decode.{encode-unique}
+use Rattle.record.proofs.Laws.Decode.{encode-unique}
 use Rattle.record_reader.specs.Laws.Exact.{exact}
-use Rattle.record.specs.Laws.Record.{encode-length}
+use Rattle.record.proofs.Laws.Record.{encode-length}
 use Rattle.losses_report.specs.declared.State.{State}
 use Rattle.losses_report.specs.declared.State.TheVariants.{Going, Done}
 use Rattle.losses_line.specs.Line.{bad_line}
