@@ -1,11 +1,11 @@
 #!/bin/sh
 # Compares the speed of the proved program `losses` with a plain C program of the same output, on 50 MB of mixed records.
-# Run it after `rt check losses`. It prints the best of 10 runs of each, taken by turns, and the ratio.
+# Run it after `rt run` in crates/losses. It prints the best of 10 runs of each, taken by turns, and the ratio.
 set -eu
 here=$(cd "$(dirname "$0")" && pwd)
-proved=$here/../target/bin/losses
+proved=$here/../crates/losses/out/losses
 bytes=${1:-50000000} seed=${2:-1} runs=10
-[ -x "$proved" ] || { echo "no target/bin/losses: run 'rt check losses' first" >&2; exit 2; }
+[ -x "$proved" ] || { echo "no crates/losses/out/losses: run 'rt run </dev/null' in crates/losses first" >&2; exit 2; }
 room=$(mktemp -d)
 trap 'rm -rf "$room"' EXIT
 gcc -O2 "-I$here/../include" "-I$here/../host" -o "$room/make_records" "$here/make_records.c"

@@ -1,11 +1,11 @@
 #!/bin/sh
 # Compares what the proved program `losses` and the plain C program print of broken inputs: a byte changed or the last bytes
-# left out, from a file and through a pipe in small pieces. Run it after `rt check losses`.
+# left out, from a file and through a pipe in small pieces. Run it after `rt run` in crates/losses.
 set -eu
 here=$(cd "$(dirname "$0")" && pwd)
-proved=$here/../target/bin/losses
+proved=$here/../crates/losses/out/losses
 count=${1:-300} size=${2:-200000}
-[ -x "$proved" ] || { echo "no target/bin/losses: run 'rt check losses' first" >&2; exit 2; }
+[ -x "$proved" ] || { echo "no crates/losses/out/losses: run 'rt run </dev/null' in crates/losses first" >&2; exit 2; }
 room=$(mktemp -d)
 trap 'rm -rf "$room"' EXIT
 gcc -O2 "-I$here/../include" "-I$here/../host" -o "$room/make_records" "$here/make_records.c"

@@ -5,7 +5,7 @@
 
 FOLDER is the repository's, by default the folder above this file's; without a SCRIPT every script of FOLDER/cases is played.
 The definitions are the files crates/*/specs/**/*.antt. What runs is translated from their text: each function that a call needs,
-from `step`, `format`, `formatLeaves`, `mount` and the record reader on, becomes one Python function, clause by clause. By hand are
+from `step`, `format`, `format_leaves`, `mount` and the record reader on, becomes one Python function, clause by clause. By hand are
 only the functions of the proof library (LIBRARY) and the lines of a script that are no calls (Player).
 From an accepted mount on, as long as nothing but calls changes the areas, the register is fed with each call and its answer (`feed`),
 and held against what the areas then store: server, view, what waits, and what each program has lost.
@@ -100,18 +100,26 @@ class Reader:
         while OPERATORS.get(self.peek(), (-1, 0))[0] >= least:
             operator = self.next()
             strength, right = OPERATORS[operator]
-            left = ('call', ('name', f'_{operator}_'), [left, self.expression(strength + 1 - right)])
+            left = ('call', ('name', f'◌{operator}◌'), [left, self.expression(strength + 1 - right)])
         return left
 
     def application(self):
-        """A function with its arguments; `.field` is taken of all that stands before it."""
-        e, arguments = self.atom(), []
+        """A function with its arguments."""
+        e, arguments = self.projection(), []
         while self.peek() not in CLOSING and self.peek() not in OPERATORS:
-            if self.peek().startswith('.'):
-                e, arguments = ('field', ('call', e, arguments) if arguments else e, self.next()[1:]), []
-            else:
-                arguments.append(self.atom())
+            arguments.append(self.projection())
         return ('call', e, arguments) if arguments else e
+
+    def projection(self):
+        """An atom with the fields that are written close behind it."""
+        e = self.atom()
+        while self.peek().startswith('.') and self.peek() != '.':
+            before, word = self.words[self.at - 1:self.at + 1]
+            if (word.line, word.column) != (before.line, before.column + len(before.text)):
+                raise Unclear(f'line {word.line}: {word.text} stands apart')
+            for field in self.next()[1:].split('.'):
+                e = ('field', e, field)
+        return e
 
     def atom(self):
         text = self.next('an expression' if self.peek() in CLOSING or self.peek() in OPERATORS else None)
@@ -243,15 +251,20 @@ class Module:
 
 
 class Repository:
-    """The files of the repository: `Rattle·CRATE.specs.A.B` is crates/CRATE/specs/A/B.antt."""
+    """The files of the repository: `Rattle.CRATE.specs.A.B` is crates/CRATE/specs/A/B.antt."""
 
-    PATH = re.compile(r'Rattle·([^.·]+)(?:·specs)?\.specs\.(.+)')
+    PATH = re.compile(r'Rattle\.([^.]+)\.specs\.(.+)')
 
     def __init__(self, root):
         self.root, self.files = root, {None: None}
 
-    def module(self, path):
+    def parted(self, path):
+        """The crate of a path and the rest; nothing if the crate is not the repository's."""
         found = self.PATH.fullmatch(path)
+        return found if found and (self.root / 'crates' / found[1]).is_dir() else None
+
+    def module(self, path):
+        found = self.parted(path)
         file = found and self.root / 'crates' / found[1] / 'specs' / (found[2].replace('.', '/') + '.antt')
         if file not in self.files:
             self.files[file] = Module(self, f'{found[1]}_{found[2]}', file.read_text(encoding='utf-8')) if file.is_file() else None
@@ -259,12 +272,12 @@ class Repository:
 
     def find(self, path, name):
         """What a name means that a file uses from a path: all that is not the repository's is the library's."""
-        found = self.PATH.fullmatch(path)
+        found = self.parted(path)
         if not found:
             return OPTIONS.get(name) or Library(name)
         inner = found[2].split('.')
         if inner[0] == 'declared':
-            return self.variants(found[1], inner[1:-1]).get(name) if inner[-1] == 'the-variants' else None
+            return self.variants(found[1], inner[1:-1]).get(name) if inner[-1] == 'TheVariants' else None
         if not self.module(path):
             raise Unclear(f'no file for {path}')
         return self.module(path).find(name)
@@ -286,7 +299,7 @@ class Repository:
         files = [file for file in self.root.glob('crates/*/specs/**/*.antt') if 'Laws' not in file.parts
                  and re.search(rf'^{name}\b[^:\n]*=', file.read_text(encoding='utf-8'), re.M)]
         parts = [file.relative_to(self.root / 'crates').with_suffix('').parts for file in files]
-        chosen = [f'Rattle·{".".join(p)}' for p in parts if len(parts) == 1 or p[0] == crate]
+        chosen = [f'Rattle.{".".join(p)}' for p in parts if len(parts) == 1 or p[0] == crate]
         if len(chosen) != 1:
             raise Unclear(f'{name} is defined in {len(files)} files')
         return self.module(chosen[0])
@@ -319,13 +332,13 @@ HELPERS = {
 
 # the library's functions that the definitions use: the number of arguments, and the Python expression
 LIBRARY = {
-    'zero': (0, '0'), 'suc': (1, '({0} + 1)'), '_+_': (2, '({0} + {1})'), '_-_': (2, 'minus({0}, {1})'), '_*_': (2, '({0} * {1})'),
-    '_/_': (2, '({0} // {1})'), '_%_': (2, '({0} % {1})'), '_^_': (2, 'power({0}, {1})'), 'over power': (3, 'over_power({0}, {1}, {2})'),
+    'zero': (0, '0'), 'suc': (1, '({0} + 1)'), '◌+◌': (2, '({0} + {1})'), '◌-◌': (2, 'minus({0}, {1})'), '◌*◌': (2, '({0} * {1})'),
+    '◌/◌': (2, '({0} // {1})'), '◌%◌': (2, '({0} % {1})'), '◌^◌': (2, 'power({0}, {1})'), 'over power': (3, 'over_power({0}, {1}, {2})'),
     'min': (2, 'min({0}, {1})'), 'max': (2, 'max({0}, {1})'), 'ltb': (2, '({0} < {1})'), 'leb': (2, '({0} <= {1})'),
-    'eqb': (2, '({0} == {1})'), 'true': (0, 'True'), 'false': (0, 'False'), 'not': (1, '(not {0})'), '_&&_': (2, '({0} and {1})'),
-    '_||_': (2, '({0} or {1})'), 'cond': (3, '({1} if {0} else {2})'), '[]': (0, '()'), '_∷_': (2, '(({0},) + {1})'),
-    '_++_': (2, '({0} + {1})'), 'length': (1, 'len({0})'), 'take': (2, '{1}[:{0}]'), 'drop': (2, '{1}[{0}:]'),
-    'getD': (3, 'element({0}, {1}, {2})'), 'set': (3, 'with_element({0}, {1}, {2})'), 'replicate': (2, 'copies({0}, {1})'),
+    'eqb': (2, '({0} == {1})'), 'true': (0, 'True'), 'false': (0, 'False'), 'not': (1, '(not {0})'), '◌&&◌': (2, '({0} and {1})'),
+    '◌||◌': (2, '({0} or {1})'), 'cond': (3, '({1} if {0} else {2})'), '[]': (0, '()'), '◌∷◌': (2, '(({0},) + {1})'),
+    '◌++◌': (2, '({0} + {1})'), 'length': (1, 'len({0})'), 'take': (2, '{1}[:{0}]'), 'drop': (2, '{1}[{0}:]'),
+    'get_or': (3, 'element({0}, {1}, {2})'), 'set': (3, 'with_element({0}, {1}, {2})'), 'replicate': (2, 'copies({0}, {1})'),
     'map': (2, 'tuple(map({0}, {1}))'),
 }
 
@@ -335,12 +348,17 @@ EQUALITY = ['self [] [] = true', 'self [] ( 0 ∷ 1 ) = false', 'self ( 0 ∷ 1 
             'self ( 0 ∷ 1 ) ( 2 ∷ 3 ) = eqb 0 2 && self 1 3']
 
 # functions whose results are kept, since the same bytes come again and again
-KEPT = {'decodeVolume', 'decodeLog', 'decodeRecord', 'recordAt', 'readSlot', 'encodeVolume', 'encodeEntry', 'encodeSlot'}
+KEPT = {'decode_volume', 'decode_log', 'decode_record', 'record_at', 'read_slot', 'encode_volume', 'encode_entry', 'encode_slot'}
 
 
 # ---------------------------------------------------------------------------------------------------------- translation
 def field_name(name):
     return 'f_' + re.sub(r'\W', '_', name)
+
+
+def taken(field):
+    """What takes a field of a record, or a part of a tuple."""
+    return f'[{field}]' if field.isdecimal() else f'.{field_name(field)}'
 
 
 class Translator:
@@ -392,7 +410,7 @@ class Translator:
         for left, right in definition.clauses:
             variables, texts = {}, []
             for word in [w.text for w in left] + ['='] + [w.text for w in right]:
-                known = definition.module.find(f'_{word}_' if word in OPERATORS else word)
+                known = definition.module.find(f'◌{word}◌' if word in OPERATORS else word)
                 if known is definition:
                     word = 'self'
                 elif word not in ('(', ')', '=') and not isinstance(known, Library):
@@ -452,7 +470,7 @@ class Translator:
         elif library == 'suc':
             tests.append(f'{text} >= 1')
             self.match(module, arguments[0], f'({text} - 1)', tests, names)
-        elif library == '_∷_':
+        elif library == '◌∷◌':
             firsts, rest = self.spine(pattern)
             tests.append(f'len({text}) >= {len(firsts)}')
             for i, first in enumerate(firsts):
@@ -466,7 +484,7 @@ class Translator:
     def spine(self, e):
         """The elements of a ∷ b ∷ .. ∷ l, and l."""
         firsts = []
-        while e[0] == 'call' and e[1] == ('name', '_∷_'):
+        while e[0] == 'call' and e[1] == ('name', '◌∷◌'):
             firsts.append(e[2][0])
             e = e[2][1]
         return firsts, e
@@ -492,7 +510,7 @@ class Translator:
         if e[0] == 'tuple':
             return f'({", ".join(self.text(module, part, scope) for part in e[1])})'
         if e[0] == 'field':
-            return self.text(module, e[1], scope) + (f'[{e[2]}]' if e[2].isdecimal() else f'.{field_name(e[2])}')
+            return self.text(module, e[1], scope) + taken(e[2])
         if e[0] == 'record':
             return f'{self.record(e[1])}({", ".join(self.text(module, e[1][f], scope) for f in sorted(e[1]))})'
         if e[0] == 'let':
@@ -509,15 +527,15 @@ class Translator:
         """A name with its arguments: as many as it takes, or fewer, or more."""
         first, *fields = name.split('.')
         target = scope.get(first) if isinstance(scope.get(first), str) else scope.get(name) or module.find(name)
-        if target == Library('_∷_') and len(arguments) == 2:
+        if target == Library('◌∷◌') and len(arguments) == 2:
             firsts, rest = self.spine(('call', ('name', name), arguments))
             text = '(' + ''.join(f'{self.text(module, a, scope)}, ' for a in firsts) + ')'
             return text if self.is_library(module, rest, '[]', scope) else f'({text} + {self.text(module, rest, scope)})'
-        if target == Library('_/_') and arguments[1:] and arguments[1][:2] == ('call', ('name', '_^_')):
+        if target == Library('◌/◌') and arguments[1:] and arguments[1][:2] == ('call', ('name', '◌^◌')):
             target, arguments = Library('over power'), [arguments[0], *arguments[1][2]]
         texts = [self.text(module, a, scope) for a in arguments]
         if isinstance(target, str):
-            arity, form = 0, '.'.join([target] + [field_name(f) for f in fields])
+            arity, form = 0, target + ''.join(taken(f) for f in fields)
         elif isinstance(target, Library) and target.name in LIBRARY:
             arity, form = LIBRARY[target.name]
         elif isinstance(target, Constructor):
@@ -562,24 +580,24 @@ class Fed:
 
     def __init__(self, run, geometry, server):
         self.run, self.geometry, self.programs, self.taken = run, geometry, set(), {}
-        self.register = run['begun'](run['decodeVolume'](geometry.f_objects, geometry.f_blocks, server)[1])
+        self.register = run['begun'](run['decode_volume'](geometry.f_objects, geometry.f_blocks, server)[1])
 
     def call(self, call, answer, buffers):
         """Feeds one call, and holds the register against the buffers as the call left them."""
         run = self.run
         self.register = run['feed'](call, answer, self.register)
-        model = run['decodeModel'](self.geometry, buffers)
+        model = run['decode_model'](self.geometry, buffers)
         if model[0] != 'some':
             raise Unclear('the register: the buffers store nothing')
         model, slots = model[1], model[1].f_log.f_slots
-        self.agree('server', run['replay'](self.register.f_mounted, run['sentIn'](self.register)), model.f_server)
-        self.agree('view', run['viewOf'](self.register), model.f_view)
-        self.agree('what waits', run['waitingIn'](self.register), run['waitingOf'](slots))
+        self.agree('server', run['replay'](self.register.f_mounted, run['sent_in'](self.register)), model.f_server)
+        self.agree('view', run['view_of'](self.register), model.f_view)
+        self.agree('what waits', run['waiting_in'](self.register), run['waiting_of'](slots))
         self.programs.update(a.f_recorded.f_program for a in self.register.f_operations)
         for program in self.programs:
             taken = self.taken[program] = self.taken.get(program, ()) + run['wrote'](program, call, answer)
-            left = tuple(run['encode'](r) for r in run['lossesOf'](program, slots))
-            self.agree(f'losses of program {program}', run['lostRecords'](program, self.register), taken + left)
+            left = tuple(run['encode'](r) for r in run['losses_of'](program, slots))
+            self.agree(f'losses of program {program}', run['lost_records'](program, self.register), taken + left)
 
     def agree(self, what, told, stored):
         if told != stored:
@@ -598,8 +616,8 @@ class Player:
              'mkdir': 'nn=n', 'rmfile': 'nn=', 'rmdir': 'nn=', 'rename': 'nn=n=', 'write': 'nnn=', 'setlen': 'nnn',
              'forder': 'n=', 'push': 'n', 'fsync': 'nnn', 'cut': '', 'take': 'n=', 'renew': 'n', 'record': 'n='}
     # the calls that the definitions name otherwise, and those that print their buffer
-    NAMES = {'create': 'createFile', 'mkdir': 'makeDirectory', 'rmfile': 'removeFile', 'rmdir': 'removeDirectory',
-             'setlen': 'setLength'}
+    NAMES = {'create': 'create_file', 'mkdir': 'make_directory', 'rmfile': 'remove_file', 'rmdir': 'remove_directory',
+             'setlen': 'set_length'}
     BUFFERED = {'list', 'read', 'take'}
     # the calls whose first argument tells who makes a change
     CHANGES = {'create', 'mkdir', 'rmfile', 'rmdir', 'rename', 'write', 'setlen', 'forder'}
@@ -685,10 +703,10 @@ class Player:
         buffers = self.record(server=lent[0], view=lent[1], log=lent[2])
         own, left = (), lent
         if name == 'record':
-            loss = run['lossOf'](arguments[0], run['decodeRecord'](arguments[1][arguments[0]:]))
+            loss = run['loss_of'](arguments[0], run['decode_record'](arguments[1][arguments[0]:]))
             number, results = loss.f_returned, (loss.f_next, loss.f_sequence, loss.f_program, loss.f_kind)
         elif name == 'format':
-            number, results, left = run['format'](geometry, lent[0]), (), [run['formatLeaves'](geometry, lent[0])] + lent[1:]
+            number, results, left = run['format'](geometry, lent[0]), (), [run['format_leaves'](geometry, lent[0])] + lent[1:]
             self.fed = None
         else:
             made = None if name == 'mount' else self.made(name, arguments)
@@ -736,17 +754,17 @@ def main():
     repository, start, returned, fed, differing = Repository(chosen.root), time.time(), collections.Counter(), [0], 0
     translator = Translator(repository)
     try:
-        named = {'session': ('step', 'format', 'formatLeaves', 'mount')}
+        named = {'session': ('step', 'format', 'format_leaves', 'mount')}
         translator.entries = {name: translator.load(repository.defining(name, crate).definitions[name])
                               for crate, names in named.items() for name in names}
-        translator.calls = repository.module('Rattle·session.specs.Call').definitions
-        for path, names in {'register.specs.Register': 'begun sentIn waitingIn viewOf', 'register.specs.Replay': 'replay',
-                            'register.specs.Feed': 'feed', 'register.specs.Takes': 'wrote lostRecords', 'record.specs.Fields': 'encode',
-                            'log.specs.Change': 'waitingOf lossesOf', 'session.specs.Step': 'decodeModel',
-                            'volume_tree.specs.Stored': 'decodeVolume', 'writebehind.specs.Loss': 'lossOf',
-                            'record.specs.Decode': 'decodeRecord'}.items():
+        translator.calls = repository.module('Rattle.session.specs.Call').definitions
+        for path, names in {'register.specs.Register': 'begun sent_in waiting_in view_of', 'register.specs.Replay': 'replay',
+                            'register.specs.Feed': 'feed', 'register.specs.Takes': 'wrote lost_records', 'record.specs.Fields': 'encode',
+                            'log_rules.specs.Change': 'waiting_of losses_of', 'session.specs.Step': 'decode_model',
+                            'volume_tree.specs.Stored': 'decode_volume', 'writebehind.specs.Loss': 'loss_of',
+                            'record.specs.Decode': 'decode_record'}.items():
             for name in names.split():
-                translator.entries[name] = translator.load(repository.module(f'Rattle·{path}').definitions[name])
+                translator.entries[name] = translator.load(repository.module(f'Rattle.{path}').definitions[name])
     except Unclear as reason:
         print(f'not translated: {reason}')
         return 2
