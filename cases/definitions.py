@@ -174,7 +174,7 @@ class Reader:
 Constructor = collections.namedtuple('Constructor', 'name arity')
 Library = collections.namedtuple('Library', 'name')
 
-OPTIONS = {'none': Constructor('none', 0), 'some': Constructor('some', 1)}
+STANDARD = {'None': Constructor('None', 0), 'Some': Constructor('Some', 1), 'Ok': Constructor('Ok', 1), 'Err': Constructor('Err', 1)}
 
 
 class Definition:
@@ -244,6 +244,8 @@ class Module:
             return self.definitions.get(name) or self.constructors[name]
         if name in self.used:
             return self.repository.find(*self.used[name])
+        if name == 'tt':
+            return Library(name)
         first, _, rest = name.partition('.')
         if rest in self.type(first):
             return self.type(first)[rest]
@@ -274,7 +276,7 @@ class Repository:
         """What a name means that a file uses from a path: all that is not the repository's is the library's."""
         found = self.parted(path)
         if not found:
-            return OPTIONS.get(name) or Library(name)
+            return STANDARD.get(name) or Library(name)
         inner = found[2].split('.')
         if inner[0] == 'declared':
             return self.variants(found[1], inner[1:-1]).get(name) if inner[-1] == 'TheVariants' else None
@@ -290,7 +292,7 @@ class Repository:
             text = re.sub(r'//.*', '', file.read_text(encoding='utf-8'))
             found = re.search(rf'\benum\s+{inner[-1]}\s*{{(.*?)\n}}', text, re.S)
             if found:
-                rows = re.findall(r'(\w+)\s*(?:\(([^()]*)\))?\s*(?:,|$)', found[1].strip())
+                rows = re.findall(r'(\w+)\s*(?:\(([^()]*)\))?\s*(?:,|$)', re.sub(r'\s*=\s*\d+', '', found[1].strip()))
                 return {name: Constructor(name, len(re.findall(r'[^,\s][^,]*', types))) for name, types in rows}
         raise Unclear(f'no enum {inner[-1]} in crate {crate}')
 
@@ -335,7 +337,8 @@ LIBRARY = {
     'zero': (0, '0'), 'suc': (1, '({0} + 1)'), '◌+◌': (2, '({0} + {1})'), '◌-◌': (2, 'minus({0}, {1})'), '◌*◌': (2, '({0} * {1})'),
     '◌/◌': (2, '({0} // {1})'), '◌%◌': (2, '({0} % {1})'), '◌^◌': (2, 'power({0}, {1})'), 'over power': (3, 'over_power({0}, {1}, {2})'),
     'min': (2, 'min({0}, {1})'), 'max': (2, 'max({0}, {1})'), 'ltb': (2, '({0} < {1})'), 'leb': (2, '({0} <= {1})'),
-    'eqb': (2, '({0} == {1})'), 'true': (0, 'True'), 'false': (0, 'False'), 'not': (1, '(not {0})'), '◌&&◌': (2, '({0} and {1})'),
+    'eqb': (2, '({0} == {1})'), 'true': (0, 'True'), 'false': (0, 'False'), 'tt': (0, '()'), 'not': (1, '(not {0})'),
+    '◌&&◌': (2, '({0} and {1})'),
     '◌||◌': (2, '({0} or {1})'), 'cond': (3, '({1} if {0} else {2})'), '[]': (0, '()'), '◌∷◌': (2, '(({0},) + {1})'),
     '◌++◌': (2, '({0} + {1})'), 'length': (1, 'len({0})'), 'take': (2, '{1}[:{0}]'), 'drop': (2, '{1}[{0}:]'),
     'get_or': (3, 'element({0}, {1}, {2})'), 'set': (3, 'with_element({0}, {1}, {2})'), 'replicate': (2, 'copies({0}, {1})'),
@@ -587,7 +590,7 @@ class Fed:
         run = self.run
         self.register = run['feed'](call, answer, self.register)
         model = run['decode_model'](self.geometry, buffers)
-        if model[0] != 'some':
+        if model[0] != 'Some':
             raise Unclear('the register: the buffers store nothing')
         model, slots = model[1], model[1].f_log.f_slots
         self.agree('server', run['replay'](self.register.f_mounted, run['sent_in'](self.register)), model.f_server)

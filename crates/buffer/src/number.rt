@@ -1,4 +1,6 @@
 // Numbers in a buffer, "stored low byte first".
+#![tactic(auto, using(crate::specs::Laws::Numeral::numerals))]
+
 ghost use Rattle.std.specs.Prelude.{◌≡◌, ◌+◌, ◌<◌, ◌≤◌, length, get_or, take, drop};
 ghost use Rattle.buffer.specs.Numeral.{numeral};
 

@@ -1,4 +1,6 @@
 // Numbers and bytes put into a buffer at a place; every put answers the place after it.
+#![tactic(auto, using(crate::specs::Laws::Patch::puts), unfolding(crate::specs::Numeral::bytes))]
+
 ghost use Rattle.std.specs.Prelude.{◌+◌, ◌≤◌, length};
 ghost use Rattle.buffer.specs.Numeral.{bytes};
 ghost use Rattle.buffer.specs.Patch.{Put};
@@ -35,10 +37,8 @@ pub fn put_bytes(buf: &mut [u8], at: usize, src: &[u8]) -> usize
     requires { at + length src.now ≤ length buf.old }
     ensures { Put src.now at buf.old buf.new result }
 {
-    let mut i = 0;
-    while i < src.len() {
+    for i in 0..src.len() {
         buf[at + i] = src[i];
-        i += 1;
     }
-    at + i
+    at + src.len()
 }

@@ -1,4 +1,6 @@
 // Stretches of a buffer.
+#![tactic(auto, using(crate::specs::Laws::Span::stretches))]
+
 ghost use Rattle.std.specs.Prelude.{◌≡◌, take, drop};
 
 // Where a stretch of the buffer lies.

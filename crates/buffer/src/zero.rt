@@ -1,4 +1,6 @@
 // Stretches without use: "Bytes not in use are zero".
+#![tactic(auto, using(crate::specs::Laws::Zero::seen), unfolding(crate::specs::Code::Zero::zeros))]
+
 ghost use Rattle.std.specs.Prelude.{◌≡◌, length, replicate};
 ghost use Rattle.buffer.specs.Code.Zero.{zeros};
 
@@ -7,10 +9,8 @@ pub fn all_zero(s: &[u8]) -> bool
     ensures { result ≡ zeros s.now }
 {
     let mut seen = 0u8;
-    let mut i = 0;
-    while i < s.len() {
-        seen = seen | s[i];
-        i += 1;
+    for b in s {
+        seen |= *b;
     }
     seen == 0
 }
@@ -19,9 +19,7 @@ pub fn all_zero(s: &[u8]) -> bool
 pub fn clear(s: &mut [u8])
     ensures { s.new ≡ replicate (length s.old) 0 }
 {
-    let mut i = 0;
-    while i < s.len() {
-        s[i] = 0;
-        i += 1;
+    for b in s.iter_mut() {
+        *b = 0;
     }
 }

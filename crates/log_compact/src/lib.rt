@@ -18,10 +18,8 @@ pub fn move_down(s: &mut [u8], at: usize, len: usize)
     ensures { s.new ≡ take at s.old ++ (drop (at + len) s.old ++ replicate len 0) }
 {
     let end = s.len() - len;
-    let mut i = at;
-    while i < end {
+    for i in at..end {
         s[i] = s[i + len];
-        i += 1;
     }
     clear(&mut s[end..]);
 }
@@ -46,10 +44,8 @@ fn move_slot(s: &mut [u8], from: usize, to: usize)
     }
     let source = from * SLOT;
     let target = to * SLOT;
-    let mut i = 0;
-    while i < SLOT {
+    for i in 0..SLOT {
         s[target + i] = s[source + i];
-        i += 1;
     }
 }
 
@@ -62,14 +58,12 @@ pub fn free_slots(s: &mut [u8], freed: &[u8]) -> usize
     ensures value { result ≡ length (kept freed.now (slots_in s.old)) }
 {
     let count = s.len() / SLOT;
-    let mut read = 0;
     let mut write = 0;
-    while read < count {
+    for read in 0..count {
         if freed[read] != 1 {
             move_slot(s, read, write);
             write += 1;
         }
-        read += 1;
     }
     let used = write * SLOT;
     clear(&mut s[used..]);

@@ -39,9 +39,7 @@ pub fn note_slots(s: &mut [u8], program: usize, reached: &mut [u8; 256])
         → s.new ≡ encode_slots (noted program ops (slots_in s.old)) }
     ensures by_index_3 { (ops : List ℕ) → Holds reached.old ops → Holds reached.new (reach ops (slots_in s.old)) }
 {
-    let mut i = s.len() / SLOT;
-    while 0 < i {
-        i -= 1;
+    for i in (0..s.len() / SLOT).rev() {
         note_slot(s, i, program, reached);
     }
 }

@@ -35,9 +35,7 @@ pub fn discard_slots(s: &mut [u8]) -> usize
         ≡ dependents_of (slots_in s.old)) × (result < 4294967296) }
 {
     let mut found = 0;
-    let mut i = s.len() / SLOT;
-    while 0 < i {
-        i -= 1;
+    for i in (0..s.len() / SLOT).rev() {
         found = union_of(discard_slot(s, i), found);
     }
     found

@@ -23,7 +23,7 @@ use log_slots::head::{next_number, used};
 use log_slots::programs::with_program;
 use log_slots::{HEAD, NEXT_AT, RECORD_END, RECORD_START, SLOT, WAITING};
 use log_touch::set::{add, none};
-use record_reader::{Reading, read_record};
+use record_reader::read_record;
 use volume::apply::apply;
 
 // Who issues an operation.
@@ -69,7 +69,7 @@ fn apply_record(view: &mut [u8], n: usize, b: usize, rec: &[u8])
     ensures { (r : Record) → Begins rec.now r → Issuable n b (read_volume n b view.old) r
         → view.new ≡ encode_volume b (apply (read_volume n b view.old) r.operation) }
 {
-    let Reading::Is(w) = read_record(rec, 0) else {
+    let Some(w) = read_record(rec, 0) else {
         return;
     };
     apply(view, n, b, rec, w);

@@ -5,9 +5,6 @@ use prog.LinkedThreads.{HasT}
 use Rattle.log_find.proofs.TheLink as link
 use Rattle.log_slots.proofs.Linked as b0
 use Rattle.volume_tree.proofs.Linked as b1
-use Rattle.returned.proofs.Linked as b2
-use Rattle.log_find.proofs.Position.left.Symbol as s-Position-left
-use Rattle.log_find.proofs.Position.sought.Symbol as s-Position-sought
 use Rattle.log_find.proofs.loss_of.Symbol as s-loss_of
 use Rattle.log_find.proofs.waiting_at.Symbol as s-waiting_at
 pub use Rattle.log_slots.proofs.Linked.{table-buffer, Needs-buffer, needs-buffer, table-returned, Needs-returned, needs-returned, table-names, Needs-names, needs-names, table-volume_entry, Needs-volume_entry, needs-volume_entry, table-volume_tree, Needs-volume_tree, needs-volume_tree, table-record, Needs-record, needs-record, table-log_slots, Needs-log_slots, needs-log_slots}
@@ -18,23 +15,15 @@ table-log_find = link.table
 
 -- a world that has it, and those of the crates below
 pub Needs-log_find : World → Type 0
-Needs-log_find W = Holds W "log_find" table-log_find × b0.Needs-log_slots W × b1.Needs-volume_tree W × b2.Needs-returned W × Unit {0}
+Needs-log_find W = Holds W "log_find" table-log_find × b0.Needs-log_slots W × b1.Needs-volume_tree W × Unit {0}
 
-pub needs-log_find : (W : World) → Holds W "log_find" table-log_find → b0.Needs-log_slots W → b1.Needs-volume_tree W → b2.Needs-returned W → Needs-log_find W
+pub needs-log_find : (W : World) → Holds W "log_find" table-log_find → b0.Needs-log_slots W → b1.Needs-volume_tree W → Needs-log_find W
 unfolding Needs-log_find
-needs-log_find W h n0 n1 n2 = (h, n0, n1, n2, tt)
+needs-log_find W h n0 n1 = (h, n0, n1, tt)
 
 below : (W : World) → Needs-log_find W → link.Below W
 unfolding Needs-log_find
 below W n = (b0.linked-slot-program W n.1, (b0.linked-slot-sequence W n.1, (b0.linked-slot-waits W n.1, tt)))
-
-pub linked-Position-left : (W : World) → Needs-log_find W → HasT (in_world W) true s-Position-left.code
-unfolding Needs-log_find table-log_find
-linked-Position-left W n = link.linked-log_find::Position::left W n.0 (below W n)
-
-pub linked-Position-sought : (W : World) → Needs-log_find W → HasT (in_world W) true s-Position-sought.code
-unfolding Needs-log_find table-log_find
-linked-Position-sought W n = link.linked-log_find::Position::sought W n.0 (below W n)
 
 pub linked-loss_of : (W : World) → Needs-log_find W → HasT (in_world W) true s-loss_of.code
 unfolding Needs-log_find table-log_find

@@ -16,25 +16,7 @@ use log_slots::{HEAD, NEXT_AT, SLOT};
 pub fn is_lent(s: &[u8], n: usize, b: usize, m: usize) -> bool
     ensures { result ≡ lent_log n b m s.now }
 {
-    if n < 2 {
-        return false;
-    }
-    if 256 < n {
-        return false;
-    }
-    if b < 1 {
-        return false;
-    }
-    if 64 < b {
-        return false;
-    }
-    if m < 1 {
-        return false;
-    }
-    if 1024 < m {
-        return false;
-    }
-    s.len() == HEAD + m * SLOT
+    2 <= n && n <= 256 && 1 <= b && b <= 64 && 1 <= m && m <= 1024 && s.len() == HEAD + m * SLOT
 }
 
 // Whether a slice is a well-formed log of m slots, for n objects and b blocks a file.

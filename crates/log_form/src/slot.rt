@@ -8,53 +8,35 @@ use buffer::number::{byte_at, four_at};
 use buffer::zero::all_zero;
 use log_slots::{DEPENDENTS_AT, LOST, RECORD_END, RECORD_START, WAITING};
 use record_reader::fit::fits;
-use record_reader::{Reading, read_record};
-
-// What a used slot is by itself: well formed, with its sequence number and whether it waits; or not.
-#[derive(Drop)]
-pub enum SlotForm {
-    Is(usize, bool),
-    Bad,
-}
+use record_reader::read_record;
 
 // Whether the bytes before the record are as a used slot has them: "3 zero bytes, dependents (4 ..; zero if lost)".
 fn front_formed(e: &[u8]) -> bool
     requires { length e.now ≡ slot_bytes }
     ensures { result ≡ front_formed e.now }
 {
-    if all_zero(&e[1..DEPENDENTS_AT]) {
-        let state = byte_at(e, 0);
-        if state == WAITING {
-            return true;
-        }
-        if state == LOST {
-            return four_at(e, DEPENDENTS_AT) == 0;
-        }
-    }
-    false
+    let state = byte_at(e, 0);
+    all_zero(&e[1..DEPENDENTS_AT])
+        && (state == WAITING || (state == LOST && four_at(e, DEPENDENTS_AT) == 0))
 }
 
-// The form of a slot, waiting or not, by its record's part: "a loss record" that fits n and b, and zeros.
-fn record_formed(part: &[u8], n: usize, b: usize, waits: bool) -> SlotForm
+// What a used slot is by itself, its sequence number and whether it waits, if it is well formed. By its record's part: "a loss record" that fits n and b, and zeros.
+fn record_formed(part: &[u8], n: usize, b: usize, waits: bool) -> Option<(usize, bool)>
     requires { b ≤ 64 }
     ensures { result ≡ form_by n b waits part.now (record_at part.now 0) }
 {
-    let Reading::Is(w) = read_record(part, 0) else {
-        return SlotForm::Bad;
+    let Some(w) = read_record(part, 0) else {
+        return None;
     };
-    if fits(part, w, n, b) {
-        let next = w.next;
-        let end = next.at;
-        if all_zero(&part[end..]) {
-            let head = w.head;
-            return SlotForm::Is(head.sequence, waits);
-        }
+    let end = w.next.at;
+    if fits(part, w, n, b) && all_zero(&part[end..]) {
+        return Some((w.head.sequence, waits));
     }
-    SlotForm::Bad
+    None
 }
 
 // The form of a slot that is not free: its front, and its record's part.
-pub fn slot_formed(e: &[u8], n: usize, b: usize) -> SlotForm
+pub fn slot_formed(e: &[u8], n: usize, b: usize) -> Option<(usize, bool)>
     requires b_bound { b ≤ 64 }
     requires e_len { length e.now ≡ slot_bytes }
     ensures { result ≡ slot_form n b e.now }
@@ -63,5 +45,5 @@ pub fn slot_formed(e: &[u8], n: usize, b: usize) -> SlotForm
         let waits = byte_at(e, 0) == WAITING;
         return record_formed(&e[RECORD_START..RECORD_END], n, b, waits);
     }
-    SlotForm::Bad
+    None
 }

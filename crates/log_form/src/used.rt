@@ -3,7 +3,7 @@ ghost use Rattle.std.specs.Prelude.{◌≡◌, ◌*◌, ◌≤◌, length, false
 ghost use Rattle.log_rules.specs.Stored.{slot_bytes};
 ghost use Rattle.log_form.specs.Code.Checks.{may_follow, slots_formed};
 
-use crate::slot::{SlotForm, slot_formed};
+use crate::slot::slot_formed;
 use buffer::number::byte_at;
 use buffer::zero::all_zero;
 use log_slots::{FREE, SLOT};
@@ -12,15 +12,7 @@ use log_slots::{FREE, SLOT};
 fn may_follow(next: usize, last: usize, waits: bool, sequence: usize, waiting: bool) -> bool
     ensures { result ≡ may_follow next last waits sequence waiting }
 {
-    if last < sequence {
-        if sequence < next {
-            if waits {
-                return waiting;
-            }
-            return true;
-        }
-    }
-    false
+    last < sequence && sequence < next && (!waits || waiting)
 }
 
 // Whether the slots are well formed: each up to the first free one, and zeros from there on.
@@ -31,22 +23,19 @@ pub fn slots_formed(s: &[u8], n: usize, b: usize, m: usize, next: usize) -> bool
 {
     let mut last = 0;
     let mut waits = false;
-    let mut i = 0;
-    while i < m {
+    for i in 0..m {
         let at = i * SLOT;
         if byte_at(s, at) == FREE {
             return all_zero(&s[at..]);
         }
-        let SlotForm::Is(sequence, waiting) = slot_formed(&s[at..at + SLOT], n, b) else {
+        let Some((sequence, waiting)) = slot_formed(&s[at..at + SLOT], n, b) else {
             return false;
         };
-        if may_follow(next, last, waits, sequence, waiting) {
-            last = sequence;
-            waits = waiting;
-            i += 1;
-        } else {
+        if !may_follow(next, last, waits, sequence, waiting) {
             return false;
         }
+        last = sequence;
+        waits = waiting;
     }
     true
 }

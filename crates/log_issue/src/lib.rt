@@ -49,7 +49,7 @@ pub fn issue_entry(
     issue(log, view, n, b, m, d)
 }
 
-// Issues an operation of rename; 0 stands for no displaced object.
+// Issues an operation of rename, which may displace an object.
 pub fn issue_rename(
     log: &mut [u8],
     view: &mut [u8],
@@ -60,7 +60,7 @@ pub fn issue_rename(
     object: usize,
     parent: usize,
     second: usize,
-    displaced: usize,
+    displaced: Option<usize>,
     name: &[u8],
     second_name: &[u8],
 ) -> usize

@@ -8,7 +8,7 @@ ghost use Rattle.log_operands.specs.Code.Reading.{plain, Limited, read};
 
 use buffer::span::Span;
 use record::kind::Kind;
-use record_reader::{Head, Headed, ObjectFields, Objects, Place, Range, RangeFields};
+use record_reader::{Head, Objects, Place, Range};
 use record_valid::valid::stands;
 
 // What the order of an operation goes by: so many of fields 0 to 3 and the objects of a part of its record as operands and, of an
@@ -28,9 +28,9 @@ fn first(count: usize, objects: Objects, listed: Span) -> Order
     ensures { result ≡ plain count objects listed }
 {
     Order {
-        count: count,
-        objects: objects,
-        listed: listed,
+        count,
+        objects,
+        listed,
         overwrite: false,
         offset: 0,
         len: 0,
@@ -41,19 +41,13 @@ fn first(count: usize, objects: Objects, listed: Span) -> Order
 fn nothing(rec: &[u8]) -> Order
     ensures { Sized rec.now result }
 {
-    Order {
-        count: 0,
-        objects: Objects {
-            object: 0,
-            parent: 0,
-            second: 0,
-            displaced: 0,
-        },
-        listed: Span { start: 0, len: 0 },
-        overwrite: false,
-        offset: 0,
-        len: 0,
-    }
+    let objects = Objects {
+        object: 0,
+        parent: 0,
+        second: 0,
+        displaced: 0,
+    };
+    first(0, objects, Span { start: 0, len: 0 })
 }
 
 // "Operands: the object and every parent, displaced or listed object." By the kind, of the fields that were read.
@@ -65,9 +59,7 @@ fn order_from(rec: &[u8], head: Head, objects: Objects, range: Range) -> Order
     let none = Span { start: 0, len: 0 };
     let kind = head.kind;
     match kind {
-        Kind::CreateFile => first(2, objects, none),
-        Kind::MakeDirectory => first(2, objects, none),
-        Kind::Remove => first(2, objects, none),
+        Kind::CreateFile | Kind::MakeDirectory | Kind::Remove => first(2, objects, none),
         Kind::Rename => {
             if stands(head.map, 8) {
                 return first(4, objects, none);
@@ -77,16 +69,13 @@ fn order_from(rec: &[u8], head: Head, objects: Objects, range: Range) -> Order
         Kind::Overwrite => {
             let content = range.content;
             Order {
-                count: 1,
-                objects: objects,
-                listed: none,
                 overwrite: true,
                 offset: range.offset,
                 len: content.len,
+                ..first(1, objects, none)
             }
         },
-        Kind::Append => first(1, objects, none),
-        Kind::SetLength => first(1, objects, none),
+        Kind::Append | Kind::SetLength => first(1, objects, none),
         Kind::Forder => {
             let list = range.list;
             first(0, objects, list)
@@ -100,14 +89,14 @@ pub fn order_of(rec: &[u8]) -> Order
     ensures sized { Sized rec.now result }
 {
     let start = Place { at: 0 };
-    let Headed::Is(head, p) = start.head(rec) else {
+    let Some((head, p)) = start.head(rec) else {
         return nothing(rec);
     };
     let map = head.map;
-    let ObjectFields::Are(objects, q) = p.objects(rec, map) else {
+    let Some((objects, q)) = p.objects(rec, map) else {
         return nothing(rec);
     };
-    let RangeFields::Are(range, t) = q.range(rec, map) else {
+    let Some((range, t)) = q.range(rec, map) else {
         return nothing(rec);
     };
     order_from(rec, head, objects, range)

@@ -71,12 +71,10 @@ fn run_precedes(
     requires from_le_to { (from ≤ to) × (to ≤ length (slots_in s.now)) × (offset + len ≤ 8589934592) }
     ensures { (q : Operation) → Later q set.now overwrite offset len → result ≡ some_before q (slice from to (slots_in s.now)) }
 {
-    let mut j = from;
-    while j < to {
+    for j in from..to {
         if precedes_at(s, j, set, overwrite, offset, len) {
             return true;
         }
-        j += 1;
     }
     false
 }
@@ -129,16 +127,13 @@ fn precedes_found(s: &[u8], from: usize, found: &[u8], rec: &[u8], o: Order) -> 
 {
     let mut set = none();
     add(&mut set, rec, o);
-    let count = s.len() / SLOT;
-    let mut j = from;
-    while j < count {
+    for j in from..s.len() / SLOT {
         if found[j] == 1 {
             let later = recorded(s, j);
             if directly_precedes(later, order_of(later), &set, o.overwrite, o.offset, o.len) {
                 return true;
             }
         }
-        j += 1;
     }
     false
 }
@@ -219,9 +214,7 @@ fn close_run(
     ensures { ClosedMore (slots_in s.now) to from found.old all.old others.old found.new all.new others.new result }
 {
     let mut count = 0;
-    let mut j = to;
-    while from < j {
-        j -= 1;
+    for j in (from..to).rev() {
         count += close_slot(s, j, found, all, others);
     }
     count

@@ -1,6 +1,6 @@
 -- Document 01, "Calls": what issuing, sending, discarding, taking and renewing leave of the log.
 use Rattle.std.specs.Prelude.{ℕ, ◌+◌, List, [], ◌∷◌, ◌++◌, map, Bool, not, ◌&&◌, cond, eqb}
-use Rattle.std.proofs.Math.Option.{Option, none, some}
+use Rattle.std.specs.Prelude.{Option, None, Some}
 use Rattle.record.specs.Operation.{Operation, Record}
 use Rattle.log_rules.specs.Programs.{with, without, union}
 use Rattle.log_rules.specs.Slot.{waiting, lost, Slot, with_state, with_dependents, Log, with_next, with_marks, with_slots, is_waiting, sequence_of}
@@ -53,8 +53,8 @@ abbrev pub is_loss_of : ℕ → Slot → Bool
 is_loss_of p s = not (is_waiting s) && eqb s.recorded.program p
 
 unfoldable pub earliest : (Slot → Bool) → List Slot → Option Record
-earliest f [] = none
-earliest f (s ∷ l) = cond (f s) (some s.recorded) (earliest f l)
+earliest f [] = None
+earliest f (s ∷ l) = cond (f s) (Some s.recorded) (earliest f l)
 
 abbrev pub taken : ℕ → Log → Log
 taken p l = with_slots (removed (is_loss_of p) l.slots) l

@@ -1,7 +1,7 @@
 -- Document 01, "Order and dependence": what must be sent before what.
 use Rattle.std.specs.Prelude.{ℕ, ◌+◌, ◌≡◌, Bool, true, false, not, ◌&&◌, ◌||◌, cond, length, ltb}
 use mathlib.Core.List.{List, [], ◌∷◌, Memᴰ}
-use Rattle.std.proofs.Math.Option.{Option, none, some}
+use Rattle.std.specs.Prelude.{Option, None, Some}
 use Rattle.record.specs.Operation.{Operation, Record, operands, Stretch, overwrite_of}
 use Rattle.record.specs.Fields.{member}
 
@@ -19,9 +19,9 @@ overlap f c g d = ltb f (g + length d) && ltb g (f + length c)
 
 -- two overwrites, and no common byte
 abbrev pub separate : Option Stretch → Option Stretch → Bool
-separate none t = false
-separate (some s) none = false
-separate (some s) (some t) = not (overlap s.offset s.content t.offset t.content)
+separate None t = false
+separate (Some s) None = false
+separate (Some s) (Some t) = not (overlap s.offset s.content t.offset t.content)
 
 -- "A directly precedes B if it touches B and they are not two overwrites; two overwrites with a common byte are ordered too"
 unfoldable pub directly_precedes : Operation → Operation → Bool

@@ -1,6 +1,6 @@
 -- Document 01, "Geometry and stored form": the bytes of a log, and the log of some bytes.
 use Rattle.std.specs.Prelude.{ℕ, zero, suc, ◌+◌, ◌*◌, List, [], ◌∷◌, ◌++◌, Bool, ◌&&◌, cond, length, get_or, take, drop, replicate, eqb}
-use Rattle.std.proofs.Math.Option.{Option, none, some}
+use Rattle.std.specs.Prelude.{Option, None, Some}
 use Rattle.buffer.specs.Geometry.{good_objects, good_blocks, good_capacity}
 use Rattle.buffer.specs.Decoded.{is_some}
 use Rattle.buffer.specs.Numeral.{bytes, numeral}
@@ -67,19 +67,19 @@ record_part s = take record_bytes (drop record_start s)
 
 -- the used slot that a slot's bytes tell of, if their state is one and a record stands behind it
 abbrev pub slot_from : ℕ → ℕ → Option Record → Option Slot
-slot_from zero d r = none
-slot_from (suc zero) d none = none
-slot_from (suc zero) d (some r) = some (record { state = waiting; dependents = d; recorded = r })
-slot_from (suc (suc k)) d none = none
-slot_from (suc (suc k)) d (some r) = some (record { state = lost; dependents = d; recorded = r })
+slot_from zero d r = None
+slot_from (suc zero) d None = None
+slot_from (suc zero) d (Some r) = Some (record { state = waiting; dependents = d; recorded = r })
+slot_from (suc (suc k)) d None = None
+slot_from (suc (suc k)) d (Some r) = Some (record { state = lost; dependents = d; recorded = r })
 
 unfoldable pub read_slot : List ℕ → Option Slot
 read_slot s = slot_from (get_or s 0 0) (numeral (take 4 (drop dependents_at s))) (decode_record (record_part s))
 
 -- "Used slots come first": those up to the first that is none
 abbrev pub on_slot : Option Slot → List Slot → List Slot
-on_slot none l = []
-on_slot (some s) l = s ∷ l
+on_slot None l = []
+on_slot (Some s) l = s ∷ l
 
 unfoldable pub read_slots : ℕ → List ℕ → List Slot
 read_slots zero s = []
@@ -95,7 +95,7 @@ read_log m s = record { head = read_head s; slots = read_slots m (drop head_byte
 -- bytes are of the right form exactly if they are those of a well-formed log, which is then the one that their fields tell of
 unfoldable pub decode_log : ℕ → ℕ → ℕ → List ℕ → Option Log
 decode_log n b m s =
-    cond (well_formed_log n b m (read_log m s) && same_bytes (encode_log m (read_log m s)) s) (some (read_log m s)) none
+    cond (well_formed_log n b m (read_log m s) && same_bytes (encode_log m (read_log m s)) s) (Some (read_log m s)) None
 
 -- "n objects (2..256), b blocks a file (1..64) and m log slots (1..1,024)", and the log's bytes: else "1 Wrong buffer"
 unfoldable pub lent_log : ℕ → ℕ → ℕ → List ℕ → Bool

@@ -10,7 +10,7 @@ ghost use Rattle.log_send.specs.Code.Sends.{Sent, Turn, SentFound};
 
 use log_slots::SLOT;
 use log_slots::slot::recorded;
-use record_reader::{Reading, read_record};
+use record_reader::read_record;
 use volume::apply::apply;
 use volume_applies::applies::applies;
 
@@ -29,7 +29,7 @@ pub fn send_slot(server: &mut [u8], n: usize, b: usize, s: &[u8], i: usize) -> b
     ensures { Sent b (read_volume n b server.old) (slot_at (slots_in s.now) i).recorded.operation server.new result }
 {
     let rec = recorded(s, i);
-    let Reading::Is(w) = read_record(rec, 0) else {
+    let Some(w) = read_record(rec, 0) else {
         return false;
     };
     if applies(server, n, b, rec, w) {
@@ -62,15 +62,12 @@ fn send_at(
         if send_slot(server, n, b, s, i) {
             return Tally {
                 sent: sent + 1,
-                most: tally.most,
+                ..tally
             };
         }
     }
     found[i] = 0;
-    Tally {
-        sent: sent,
-        most: sent,
-    }
+    Tally { sent, most: sent }
 }
 
 // "Fsync's counted sends within k": sends the operations of a set in issue order, at most k, up to the first that does not
@@ -88,12 +85,9 @@ pub fn send_found(
     requires s_value { (good_slots n b (slots_in s.now) ≡ true) × (length (slots_in s.now) ≤ length found.old) }
     ensures { SentFound b k (slots_in s.now) (read_volume n b server.old) found.old server.new found.new result }
 {
-    let used = s.len() / SLOT;
     let mut tally = Tally { sent: 0, most: k };
-    let mut i = 0;
-    while i < used {
+    for i in 0..s.len() / SLOT {
         tally = send_at(server, n, b, s, found, i, tally);
-        i += 1;
     }
     tally.sent
 }

@@ -48,12 +48,10 @@ pub fn used(s: &[u8], m: usize) -> usize
     requires { (m ≤ 1024) × (length s.now ≡ log_bytes m) }
     ensures { (result ≤ m) × ((n b : ℕ) → Logged n b m s.now → result ≡ used_in m s.now) }
 {
-    let mut i = 0;
-    while i < m {
+    for i in 0..m {
         if byte_at(s, HEAD + i * SLOT) == FREE {
             return i;
         }
-        i += 1;
     }
-    i
+    m
 }

@@ -14,7 +14,7 @@ use log_slots::head::{marks, set_marks, used};
 use log_slots::programs::without_program;
 use log_slots::slot::recorded;
 use log_slots::{HEAD, SLOT};
-use record_reader::{Reading, read_record};
+use record_reader::read_record;
 
 // Writes the loss record of a slot at the start of a buffer, without the zeros that follow it in the slot; its length.
 fn put_loss(s: &[u8], i: usize, own: &mut [u8]) -> usize
@@ -24,7 +24,7 @@ fn put_loss(s: &[u8], i: usize, own: &mut [u8]) -> usize
     ensures { Written (slot_at (slots_in s.now) i).recorded own.old own.new result }
 {
     let rec = recorded(s, i);
-    let Reading::Is(w) = read_record(rec, 0) else {
+    let Some(w) = read_record(rec, 0) else {
         return 0;
     };
     let next = w.next;

@@ -43,9 +43,7 @@ fn add_fields(set: &mut [u8; 256], count: usize, f: Objects)
     ensures { (ops : List ℕ) → Holds set.old ops → Holds set.new (take count (fields_of f) ++ ops) }
 {
     let fields = [f.object, f.parent, f.second, f.displaced];
-    let mut i = count;
-    while 0 < i {
-        i -= 1;
+    for i in (0..count).rev() {
         add_object(set, fields[i]);
     }
 }
@@ -55,9 +53,7 @@ fn add_list(set: &mut [u8; 256], list: &[u8])
     requires { Small (objects_of list.now) }
     ensures { (ops : List ℕ) → Holds set.old ops → Holds set.new (objects_of list.now ++ ops) }
 {
-    let mut i = list.len() / 2;
-    while 0 < i {
-        i -= 1;
+    for i in (0..list.len() / 2).rev() {
         add_object(set, object_of(list, i));
     }
 }
@@ -81,7 +77,7 @@ fn has(set: &[u8; 256], object: usize) -> bool
     set[object] == 1
 }
 
-// Whether one of so many of fields 0 to 3 is in a set.
+// Whether one of so many of fields 0 to 3 is in a set. They are tested one after the other, which is quicker than a loop.
 fn shares_fields(set: &[u8; 256], count: usize, f: Objects) -> bool
     requires { (count ≤ 4) × Small (fields_of f) }
     ensures { (ops : List ℕ) → Holds set.now ops → result ≡ shares (take count (fields_of f)) ops }
@@ -115,14 +111,10 @@ fn shares_list(set: &[u8; 256], list: &[u8]) -> bool
     requires { Small (objects_of list.now) }
     ensures { (ops : List ℕ) → Holds set.now ops → result ≡ shares (objects_of list.now) ops }
 {
-    let count = list.len() / 2;
-    let mut i = 0;
-    while i < count {
-        let object = object_of(list, i);
-        if set[object] == 1 {
+    for i in 0..list.len() / 2 {
+        if has(set, object_of(list, i)) {
             return true;
         }
-        i += 1;
     }
     false
 }

@@ -31,16 +31,13 @@ fn run<R: Read, W: Write>(
         }
         held += got;
         let told = pass(&buf[..held], base, got == 0, out);
-        let written = told.written;
-        output.write_all(&out[..written])?;
-        let state = told.state;
-        let State::Going = state else {
+        output.write_all(&out[..told.written])?;
+        let State::Going = told.state else {
             return Ok(());
         };
-        let next = told.next;
-        keep_rest(buf, next, held);
-        base += next;
-        held -= next;
+        keep_rest(buf, told.next, held);
+        base += told.next;
+        held -= told.next;
     }
 }
 

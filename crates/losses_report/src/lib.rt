@@ -6,7 +6,7 @@ ghost use Rattle.std.specs.Prelude.{◌+◌, ◌*◌, ◌<◌, ◌≤◌, ◌^�
 ghost use Rattle.losses_report.specs.Pass.{Passed};
 
 use losses_line::{put_bad, put_line};
-use record_reader::{Place, Reading};
+use record_reader::Place;
 
 // The bytes of the longest record: where as many are at hand, whatever follows them changes nothing.
 pub const LONGEST: usize = 1040;
@@ -48,7 +48,7 @@ pub fn pass(s: &[u8], base: usize, ended: bool, out: &mut [u8]) -> Progress
                 };
             }
         }
-        let Reading::Is(w) = place.record(s) else {
+        let Some(w) = place.record(s) else {
             let end = put_bad(base + at, out, to);
             return Progress {
                 next: at,

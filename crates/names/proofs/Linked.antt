@@ -4,6 +4,7 @@ use prog.Linked.{Tree, World, Holds, in_world}
 use prog.LinkedThreads.{HasT}
 use Rattle.names.proofs.TheLink as link
 use Rattle.returned.proofs.Linked as b0
+use Rattle.names.proofs.RefusalFromNameError.from.Symbol as s-RefusalFromNameError-from
 use Rattle.names.proofs.name_text.Symbol as s-name_text
 use Rattle.names.proofs.same_name.Symbol as s-same_name
 pub use Rattle.returned.proofs.Linked.{table-returned, Needs-returned, needs-returned}
@@ -23,6 +24,10 @@ needs-names W h n0 = (h, n0, tt)
 below : (W : World) → Needs-names W → link.Below W
 unfolding Needs-names
 below W n = tt
+
+pub linked-RefusalFromNameError-from : (W : World) → Needs-names W → HasT (in_world W) true s-RefusalFromNameError-from.code
+unfolding Needs-names table-names
+linked-RefusalFromNameError-from W n = link.linked-names::RefusalFromNameError::from W n.0 (below W n)
 
 pub linked-name_text : (W : World) → Needs-names W → HasT (in_world W) true s-name_text.code
 unfolding Needs-names table-names

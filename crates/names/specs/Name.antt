@@ -1,8 +1,8 @@
 -- Document 01, "Names and paths", and document 02, K2: what a name is, and when two texts are the same name.
-use Rattle.std.specs.Prelude.{ℕ, ◌+◌, List, [], ◌∷◌, Bool, true, false, not, ◌&&◌, ◌||◌, cond, length, get_or, leb, eqb}
+use Rattle.std.specs.Prelude.{ℕ, ◌+◌, List, [], ◌∷◌, Bool, true, false, not, ◌&&◌, ◌||◌, cond, length, get_or, leb, eqb, Result, Ok, Err}
 use Rattle.returned.specs.Returned
-use Rattle.names.specs.declared.NameText.{NameText}
-use Rattle.names.specs.declared.NameText.TheVariants.{Fine, Bad, Long}
+use Rattle.names.specs.declared.NameError.{NameError}
+use Rattle.names.specs.declared.NameError.TheVariants.{Bad, Long}
 
 -- "none 0 or 47 (slash)"
 unfoldable pub permitted_byte : ℕ → Bool
@@ -31,14 +31,17 @@ unfoldable pub valid_name : List ℕ → Bool
 valid_name s = good_text s && leb (length s) longest_name
 
 -- "5 Bad name: name or path text, other than length over 60"; "6 Long name: over 60 bytes"; the lower number wins
-unfoldable pub name_text_of : List ℕ → NameText
-name_text_of s = cond (good_text s) (cond (leb (length s) longest_name) Fine Long) Bad
+unfoldable pub name_text_of : List ℕ → Result (Unit {0}) NameError
+name_text_of s = cond (good_text s) (cond (leb (length s) longest_name) (Ok tt) (Err Long)) (Err Bad)
 
--- the returned number of each answer
-abbrev pub name_number : NameText → ℕ
-name_number Fine = Returned.accepted
-name_number Bad = Returned.bad_name
-name_number Long = Returned.long_name
+-- the returned number of each error, and of each answer
+abbrev pub error_number : NameError → ℕ
+error_number Bad = Returned.bad_name
+error_number Long = Returned.long_name
+
+abbrev pub name_number : Result (Unit {0}) NameError → ℕ
+name_number (Ok x) = Returned.accepted
+name_number (Err e) = error_number e
 
 -- document 02, K2, "Letter case in names": "A to Z against a to z"; no other byte changes
 unfoldable pub lower_case : ℕ → ℕ

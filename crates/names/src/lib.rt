@@ -3,32 +3,43 @@
 #![tactic(auto)]
 
 ghost use Rattle.std.specs.Prelude.{◌≡◌};
-ghost use Rattle.names.specs.Name.{all_permitted, is_dots, name_text_of, lower_case, same_name};
+ghost use Rattle.returned.specs.Refusal.{refusal_number};
+ghost use Rattle.names.specs.Name.{all_permitted, is_dots, name_text_of, error_number, lower_case, same_name};
+
+use returned::Refusal;
 
 // "A name has 1..60 bytes".
 pub const LONGEST_NAME: usize = 60;
 
-// What the text of a name is.
-#[derive(Drop)]
-pub enum NameText {
-    Fine,
+// Why a text is no name: bad, or long.
+#[derive(Clone, Copy, PartialEq, Eq)]
+pub enum NameError {
     Bad,
     Long,
+}
+
+impl From<NameError> for Refusal {
+    ghost from_gives = { λ e r. refusal_number r ≡ error_number e };
+
+    fn from(error: NameError) -> Refusal {
+        match error {
+            NameError::Bad => Refusal::BadName,
+            NameError::Long => Refusal::LongName,
+        }
+    }
 }
 
 // Whether every byte of s may stand in a name: each may but 0 and 47, the slash, which is worked out (document 02, K3).
 fn all_permitted(s: &[u8]) -> bool
     ensures { result ≡ all_permitted s.now }
 {
-    let mut i = 0;
-    while i < s.len() {
-        if s[i] == 0 {
+    for b in s {
+        if *b == 0 {
             return false;
         }
-        if s[i] == 47 {
+        if *b == 47 {
             return false;
         }
-        i += 1;
     }
     true
 }
@@ -48,23 +59,23 @@ fn is_dots(s: &[u8]) -> bool
     false
 }
 
-// The text of a name: fine, bad, or long. What is both bad and long is bad.
-pub fn name_text(s: &[u8]) -> NameText
+// Whether a text is a name's: else it is bad or long, and what is both bad and long is bad.
+pub fn name_text(s: &[u8]) -> Result<(), NameError>
     ensures { result ≡ name_text_of s.now }
 {
     if s.len() == 0 {
-        return NameText::Bad;
+        return Err(NameError::Bad);
     }
     if is_dots(s) {
-        return NameText::Bad;
+        return Err(NameError::Bad);
     }
     if all_permitted(s) {
         if s.len() <= LONGEST_NAME {
-            return NameText::Fine;
+            return Ok(());
         }
-        return NameText::Long;
+        return Err(NameError::Long);
     }
-    NameText::Bad
+    Err(NameError::Bad)
 }
 
 // A byte in lower case: A to Z become a to z, and no other byte changes.
@@ -86,12 +97,10 @@ pub fn same_name(a: &[u8], b: &[u8]) -> bool
     if a.len() != b.len() {
         return false;
     }
-    let mut i = 0;
-    while i < a.len() {
+    for i in 0..a.len() {
         if lower_case(a[i]) != lower_case(b[i]) {
             return false;
         }
-        i += 1;
     }
     true
 }

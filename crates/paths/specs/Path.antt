@@ -1,21 +1,21 @@
 -- Document 01, "Names and paths": the text of a path, and its components.
-use Rattle.std.specs.Prelude.{ℕ, List, [], ◌∷◌, ◌++◌, ◌&&◌, cond, length, get_or, drop, leb, eqb}
+use Rattle.std.specs.Prelude.{ℕ, List, [], ◌∷◌, ◌++◌, ◌&&◌, cond, length, get_or, drop, leb, eqb, Option, None, Some}
 use Rattle.returned.specs.Returned
 use Rattle.paths.specs.declared.PathText.{PathText}
-use Rattle.paths.specs.declared.PathText.TheVariants.{Bad, Root, Components}
+use Rattle.paths.specs.declared.PathText.TheVariants.{Root, Components}
 
 -- "A path has 1..1,023 bytes and starts with a slash; "/" is the root."
-unfoldable pub path_text_of : List ℕ → PathText
+unfoldable pub path_text_of : List ℕ → Option PathText
 path_text_of p =
     cond (leb 1 (length p) && (leb (length p) 1023 && eqb (get_or p 0 0) 47))
-    (cond (eqb (length p) 1) Root Components)
-    Bad
+    (cond (eqb (length p) 1) (Some Root) (Some Components))
+    None
 
 -- the returned number of each answer, before any component is looked at
-abbrev pub path_number : PathText → ℕ
-path_number Bad = Returned.bad_name
-path_number Root = Returned.accepted
-path_number Components = Returned.accepted
+abbrev pub path_number : Option PathText → ℕ
+path_number None = Returned.bad_name
+path_number (Some Root) = Returned.accepted
+path_number (Some Components) = Returned.accepted
 
 -- the bytes before the first slash, all of them where there is none
 unfoldable pub up_to_slash : List ℕ → List ℕ

@@ -5,31 +5,30 @@
 ghost use Rattle.std.specs.Prelude.{◌≡◌, ◌-◌, ◌≤◌, length, take, drop};
 ghost use Rattle.paths.specs.Path.{path_text_of, up_to_slash, component_at};
 
-// What the text of a whole path is, before any component is looked at.
-#[derive(Drop)]
+// What a path is by its text, before any component is looked at.
+#[derive(Clone, Copy, PartialEq, Eq)]
 pub enum PathText {
-    Bad,
     Root,
     Components,
 }
 
-// The text of a path: 1..1,023 bytes that start with a slash; "/" alone is the root.
-pub fn path_text(path: &[u8]) -> PathText
+// The text of a path, none where it is bad: 1..1,023 bytes that start with a slash; "/" alone is the root.
+pub fn path_text(path: &[u8]) -> Option<PathText>
     ensures { result ≡ path_text_of path.now }
 {
     if path.len() == 0 {
-        return PathText::Bad;
+        return None;
     }
     if 1023 < path.len() {
-        return PathText::Bad;
+        return None;
     }
     if path[0] != 47 {
-        return PathText::Bad;
+        return None;
     }
     if path.len() == 1 {
-        return PathText::Root;
+        return Some(PathText::Root);
     }
-    PathText::Components
+    Some(PathText::Components)
 }
 
 // Where the component that begins at a place ends: at the next slash, or at the path's end.
@@ -38,14 +37,12 @@ fn component_end(path: &[u8], at: usize) -> usize
     ensures { (at ≤ result) × (result ≤ length path.now) × (take (result - at) (drop at path.now)
         ≡ up_to_slash (drop at path.now)) }
 {
-    let mut i = at;
-    while i < path.len() {
+    for i in at..path.len() {
         if path[i] == 47 {
             return i;
         }
-        i += 1;
     }
-    i
+    path.len()
 }
 
 // The component that begins at a place, as a part of the lent path; the next one begins one past the slash after it, at

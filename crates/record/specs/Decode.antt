@@ -1,8 +1,7 @@
 -- Document 01, "Loss record": the record that some bytes begin with.
+use Rattle.record.specs.declared.kind.Kind.{Kind}
 use Rattle.std.specs.Prelude.{ℕ, ◌*◌, List, [], ◌∷◌, Bool, true, false, ◌&&◌, cond, take, drop, eqb}
-use Rattle.std.proofs.Math.Option.{Option, none, some}
-use Rattle.record.specs.declared.kind.Coded.{Coded}
-use Rattle.record.specs.declared.kind.Coded.TheVariants.{Is, Unknown}
+use Rattle.std.specs.Prelude.{Option, None, Some}
 use Rattle.record.specs.Kind.{kind_of_code}
 use Rattle.buffer.specs.Numeral.{numeral}
 use Rattle.record.specs.Operation.{Record}
@@ -35,11 +34,11 @@ read_parts m s =
 
 -- "A bit map of 2 bytes, sequence (4), program (1), kind (1), then only the fields whose bit stands": what they say of an
 -- operation of that kind, whatever else stands in them
-abbrev pub record_of_kind : Coded → List ℕ → Option Record
-record_of_kind Unknown s = none
-record_of_kind (Is k) s =
+abbrev pub record_of_kind : Option Kind → List ℕ → Option Record
+record_of_kind None s = None
+record_of_kind (Some k) s =
     let m = numeral (take 2 s) in
-    some (record { sequence = numeral (take 4 (drop 2 s)); program = numeral (take 1 (drop 6 s)); operation = operation_of k m (read_parts m (drop 8 s)) })
+    Some (record { sequence = numeral (take 4 (drop 2 s)); program = numeral (take 1 (drop 6 s)); operation = operation_of k m (read_parts m (drop 8 s)) })
 
 unfoldable pub read_record : List ℕ → Option Record
 read_record s = record_of_kind (kind_of_code (numeral (take 1 (drop 7 s)))) s
@@ -51,8 +50,8 @@ begins [] (b ∷ t) = false
 begins (a ∷ s) (b ∷ t) = eqb a b && begins s t
 
 abbrev pub if_encoded : List ℕ → Option Record → Option Record
-if_encoded s none = none
-if_encoded s (some r) = cond (valid r && begins s (encode r)) (some r) none
+if_encoded s None = None
+if_encoded s (Some r) = cond (valid r && begins s (encode r)) (Some r) None
 
 -- the record that bytes begin with: the one that their fields tell, exactly if it is valid and they begin with its very bytes;
 -- "20 Bad record: not one valid record at the start" in all other cases

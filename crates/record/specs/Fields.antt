@@ -1,7 +1,7 @@
 -- Document 01, "Loss record": the nine fields of a record in the order of their bits, the record's bytes, and what makes
 -- a record valid.
 use Rattle.std.specs.Prelude.{ℕ, ◌+◌, ◌*◌, ◌/◌, ◌%◌, List, [], ◌∷◌, ◌++◌, Bool, true, false, not, ◌&&◌, ◌||◌, length, leb, ltb, eqb}
-use Rattle.std.proofs.Math.Option.{Option, none, some}
+use Rattle.std.specs.Prelude.{Option, None, Some}
 use Rattle.buffer.specs.Geometry.{block_bytes}
 use Rattle.names.specs.Name.{valid_name}
 use Rattle.buffer.specs.Numeral.{bytes}
@@ -27,8 +27,8 @@ abbrev pub parted : ℕ → ℕ → ℕ → ℕ → List ℕ → List ℕ → �
 parted o p q d n m f b l = record { object = o; parent = p; second = q; displaced = d; name = n; second_name = m; offset = f; block = b; list = l }
 
 abbrev pub displaced_or0 : Option ℕ → ℕ
-displaced_or0 none = 0
-displaced_or0 (some d) = d
+displaced_or0 None = 0
+displaced_or0 (Some d) = d
 
 abbrev pub parts : Operation → Parts
 parts (create_file o p n) = parted o p 0 0 n [] 0 [] []
@@ -101,8 +101,8 @@ encode r =
 
 -- the displaced object, if its bit stands
 abbrev pub displaced_if : Bool → ℕ → Option ℕ
-displaced_if true d = some d
-displaced_if false d = none
+displaced_if true d = Some d
+displaced_if false d = None
 
 -- the operation of a kind with its fields taken from the nine
 abbrev pub operation_of : Kind → ℕ → Parts → Operation

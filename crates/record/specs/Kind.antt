@@ -1,10 +1,8 @@
 -- Document 01, "Loss record": the codes of the kinds and their maps. The numbers stand here and nowhere else in the
 -- definitions.
-use Rattle.std.specs.Prelude.{ℕ, Bool, ◌||◌, cond, eqb}
+use Rattle.std.specs.Prelude.{ℕ, Bool, ◌||◌, cond, eqb, Option, None, Some}
 use Rattle.record.specs.declared.kind.Kind.{Kind}
 use Rattle.record.specs.declared.kind.Kind.TheVariants.{CreateFile, MakeDirectory, Remove, Rename, Overwrite, Append, SetLength, Forder}
-use Rattle.record.specs.declared.kind.Coded.{Coded}
-use Rattle.record.specs.declared.kind.Coded.TheVariants.{Is, Unknown}
 
 -- "1 create file, 2 make directory, 3 remove .. 4 rename .. 5 overwrite, 6 append .. 7 set length .. 8 forder"
 abbrev pub code_of : Kind → ℕ
@@ -44,10 +42,10 @@ unfoldable pub has_map : Kind → ℕ → Bool
 has_map k m = eqb m (map_of_kind k) || eqb m (displacing_map_of k)
 
 -- the kind whose code a number is, sought among all kinds in the order of their codes
-abbrev pub code_is : ℕ → Kind → Coded → Coded
-code_is c k other = cond (eqb c (code_of k)) (Is k) other
+abbrev pub code_is : ℕ → Kind → Option Kind → Option Kind
+code_is c k other = cond (eqb c (code_of k)) (Some k) other
 
-unfoldable pub kind_of_code : ℕ → Coded
+unfoldable pub kind_of_code : ℕ → Option Kind
 kind_of_code c =
     code_is c CreateFile (code_is c MakeDirectory (code_is c Remove (code_is c Rename
-    (code_is c Overwrite (code_is c Append (code_is c SetLength (code_is c Forder Unknown)))))))
+    (code_is c Overwrite (code_is c Append (code_is c SetLength (code_is c Forder None)))))))

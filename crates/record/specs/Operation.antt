@@ -1,7 +1,7 @@
 -- Document 01, "Loss record" and "Order and dependence": an operation with just its fields, its record, its operands,
 -- and where an overwrite writes.
 use Rattle.std.specs.Prelude.{ℕ, List, [], ◌∷◌}
-use Rattle.std.proofs.Math.Option.{Option, none, some}
+use Rattle.std.specs.Prelude.{Option, None, Some}
 use Rattle.record.specs.declared.kind.Kind.{Kind}
 use Rattle.record.specs.declared.kind.Kind.TheVariants.{CreateFile, MakeDirectory, Remove, Rename, Overwrite, Append, SetLength, Forder}
 use Rattle.record.specs.Kind.{map_of_kind, displacing_map_of}
@@ -39,8 +39,8 @@ kind_of (forder l) = Forder
 
 -- "4 rename: 55, or 63 with a displaced object"
 abbrev pub map_with : Kind → Option ℕ → ℕ
-map_with k none = map_of_kind k
-map_with k (some d) = displacing_map_of k
+map_with k None = map_of_kind k
+map_with k (Some d) = displacing_map_of k
 
 abbrev pub map_of : Operation → ℕ
 map_of (create_file o p n) = map_of_kind CreateFile
@@ -53,8 +53,8 @@ map_of (set_length o f) = map_of_kind SetLength
 map_of (forder l) = map_of_kind Forder
 
 abbrev pub present : Option ℕ → List ℕ
-present none = []
-present (some d) = d ∷ []
+present None = []
+present (Some d) = d ∷ []
 
 -- "Operands: the object and every parent, displaced or listed object."
 unfoldable pub operands : Operation → List ℕ
@@ -73,11 +73,11 @@ pub record Stretch : Type 0 where
   pub content : List ℕ
 
 abbrev pub overwrite_of : Operation → Option Stretch
-overwrite_of (create_file o p n) = none
-overwrite_of (make_directory o p n) = none
-overwrite_of (remove o p n) = none
-overwrite_of (rename o p q d n m) = none
-overwrite_of (overwrite o f b) = some (record { offset = f; content = b })
-overwrite_of (append o f b) = none
-overwrite_of (set_length o f) = none
-overwrite_of (forder l) = none
+overwrite_of (create_file o p n) = None
+overwrite_of (make_directory o p n) = None
+overwrite_of (remove o p n) = None
+overwrite_of (rename o p q d n m) = None
+overwrite_of (overwrite o f b) = Some (record { offset = f; content = b })
+overwrite_of (append o f b) = None
+overwrite_of (set_length o f) = None
+overwrite_of (forder l) = None

@@ -3,7 +3,7 @@
 ghost use Rattle.std.specs.Prelude.{◌≡◌};
 ghost use Rattle.record.specs.Kind.{code_of, map_of_kind, displacing_map_of, kind_of_code, has_map};
 
-#[derive(Clone, Copy)]
+#[derive(Clone, Copy, PartialEq, Eq)]
 pub enum Kind {
     CreateFile,
     MakeDirectory,
@@ -13,13 +13,6 @@ pub enum Kind {
     Append,
     SetLength,
     Forder,
-}
-
-// What a code stands for.
-#[derive(Drop)]
-pub enum Coded {
-    Is(Kind),
-    Unknown,
 }
 
 impl Kind {
@@ -98,19 +91,20 @@ impl Kind {
         }
     }
 
-    pub fn of_code(code: usize) -> Coded
+    // The kind that a code stands for, if it is one.
+    pub fn of_code(code: usize) -> Option<Kind>
         ensures { result ≡ kind_of_code code }
     {
         match code {
-            Kind::CREATE_FILE => Coded::Is(Kind::CreateFile),
-            Kind::MAKE_DIRECTORY => Coded::Is(Kind::MakeDirectory),
-            Kind::REMOVE => Coded::Is(Kind::Remove),
-            Kind::RENAME => Coded::Is(Kind::Rename),
-            Kind::OVERWRITE => Coded::Is(Kind::Overwrite),
-            Kind::APPEND => Coded::Is(Kind::Append),
-            Kind::SET_LENGTH => Coded::Is(Kind::SetLength),
-            Kind::FORDER => Coded::Is(Kind::Forder),
-            _ => Coded::Unknown,
+            Kind::CREATE_FILE => Some(Kind::CreateFile),
+            Kind::MAKE_DIRECTORY => Some(Kind::MakeDirectory),
+            Kind::REMOVE => Some(Kind::Remove),
+            Kind::RENAME => Some(Kind::Rename),
+            Kind::OVERWRITE => Some(Kind::Overwrite),
+            Kind::APPEND => Some(Kind::Append),
+            Kind::SET_LENGTH => Some(Kind::SetLength),
+            Kind::FORDER => Some(Kind::Forder),
+            _ => None,
         }
     }
 

@@ -1,12 +1,10 @@
 -- What the reader of a whole record must answer: the record whose bytes begin at the place, and where its parts lie.
-use Rattle.std.specs.Prelude.{ℕ, ◌+◌, ◌≡◌, List, ◌++◌, Bool, true, false, length, drop}
+use Rattle.std.specs.Prelude.{ℕ, ◌+◌, ◌≡◌, List, ◌++◌, Bool, true, false, length, drop, Option, None, Some}
 use Rattle.record_reader.specs.declared.Objects.{Objects}
 use Rattle.buffer.specs.declared.span.Span.{Span}
 use Rattle.record_reader.specs.declared.Names.{Names}
 use Rattle.record_reader.specs.declared.Range.{Range}
 use Rattle.record_reader.specs.declared.Whole.{Whole}
-use Rattle.record_reader.specs.declared.Reading.{Reading}
-use Rattle.record_reader.specs.declared.Reading.TheVariants.{Is as RecordIs, Bad as NoRecord}
 use Rattle.buffer.specs.Numeral.{bytes}
 use Rattle.record.specs.Operation.{Record, kind_of, map_of}
 use Rattle.buffer.specs.Code.Span.{span}
@@ -62,6 +60,6 @@ whole_of r at =
 
 -- what stands at a place of a buffer: exactly if its bytes from there begin with those of a valid record, that record;
 -- "20 Bad record: not one valid record at the start" in all other cases
-pub data Exact (s : List ℕ) (at : ℕ) : Reading → Type 0 where
-  read : (r : Record) (rest : List ℕ) → valid r ≡ true → drop at s ≡ encode r ++ rest → Exact s at (RecordIs (whole_of r at))
-  refused : ((r : Record) (rest : List ℕ) → valid r ≡ true → drop at s ≡ encode r ++ rest → ⊥) → Exact s at NoRecord
+pub data Exact (s : List ℕ) (at : ℕ) : Option Whole → Type 0 where
+  read : (r : Record) (rest : List ℕ) → valid r ≡ true → drop at s ≡ encode r ++ rest → Exact s at (Some (whole_of r at))
+  refused : ((r : Record) (rest : List ℕ) → valid r ≡ true → drop at s ≡ encode r ++ rest → ⊥) → Exact s at None

@@ -10,31 +10,20 @@ ghost use Rattle.record.specs.Kind.{kind_of_code};
 use buffer::BLOCK;
 use buffer::number::{byte_at, four_at, two_at};
 use buffer::span::{Span, stretch_of};
-use names::{NameText, name_text};
-use record::kind::{Coded, Kind};
+use names::name_text;
+use record::kind::Kind;
 use record_valid::list::good_list;
 use record_valid::valid::{differ, in_block, in_limits, stands, valid_head};
 
 pub mod fit;
 
+// Where nothing lies: what is told of a stretch that is absent.
+const NOWHERE: Span = Span { start: 0, len: 0 };
+
 // A place in a buffer, counted in bytes from its start.
 #[derive(Clone, Copy)]
 pub struct Place {
     pub at: usize,
-}
-
-// A number with the place after it.
-#[derive(Drop)]
-pub enum Field {
-    Number(usize, Place),
-    Bad,
-}
-
-// A stretch of the buffer, its start and its length, with the place after it.
-#[derive(Drop)]
-pub enum Stretch {
-    Part(usize, usize, Place),
-    Bad,
 }
 
 // The map, sequence, program and kind of a record.
@@ -46,12 +35,6 @@ pub struct Head {
     pub kind: Kind,
 }
 
-#[derive(Drop)]
-pub enum Headed {
-    Is(Head, Place),
-    Bad,
-}
-
 // Fields 0 to 3; 0 where a field is absent.
 #[derive(Clone, Copy)]
 pub struct Objects {
@@ -61,23 +44,11 @@ pub struct Objects {
     pub displaced: usize,
 }
 
-#[derive(Drop)]
-pub enum ObjectFields {
-    Are(Objects, Place),
-    Bad,
-}
-
 // Fields 4 and 5: where the names lie; 0 and 0 where a field is absent.
 #[derive(Clone, Copy)]
 pub struct Names {
     pub name: Span,
     pub second: Span,
-}
-
-#[derive(Drop)]
-pub enum NameFields {
-    Are(Names, Place),
-    Bad,
 }
 
 // Fields 6 to 8: the offset or new length, and where the data and the list lie; 0 where a field is absent.
@@ -86,12 +57,6 @@ pub struct Range {
     pub offset: usize,
     pub content: Span,
     pub list: Span,
-}
-
-#[derive(Drop)]
-pub enum RangeFields {
-    Are(Range, Place),
-    Bad,
 }
 
 // A whole record: its head, its fields, and the place after it.
@@ -104,280 +69,254 @@ pub struct Whole {
     pub next: Place,
 }
 
-// What stands at a place: a whole valid record, or none ("20 Bad record").
-#[derive(Drop)]
-pub enum Reading {
-    Is(Whole),
-    Bad,
-}
-
 impl Place {
-    pub fn one(self, s: &[u8]) -> Field
+    pub fn one(self, s: &[u8]) -> Option<(usize, Place)>
         ensures { result ≡ number_at 1 s.now self.at }
     {
         let at = self.at;
         if s.len() <= at {
-            return Field::Bad;
+            return None;
         }
-        Field::Number(byte_at(s, at), Place { at: at + 1 })
+        Some((byte_at(s, at), Place { at: at + 1 }))
     }
 
-    pub fn two(self, s: &[u8]) -> Field
+    pub fn two(self, s: &[u8]) -> Option<(usize, Place)>
         ensures { result ≡ number_at 2 s.now self.at }
     {
         let at = self.at;
         if s.len() <= at {
-            return Field::Bad;
+            return None;
         }
         if s.len() - at < 2 {
-            return Field::Bad;
+            return None;
         }
-        Field::Number(two_at(s, at), Place { at: at + 2 })
+        Some((two_at(s, at), Place { at: at + 2 }))
     }
 
-    pub fn four(self, s: &[u8]) -> Field
+    pub fn four(self, s: &[u8]) -> Option<(usize, Place)>
         ensures { result ≡ number_at 4 s.now self.at }
     {
         let at = self.at;
         if s.len() <= at {
-            return Field::Bad;
+            return None;
         }
         if s.len() - at < 4 {
-            return Field::Bad;
+            return None;
         }
-        Field::Number(four_at(s, at), Place { at: at + 4 })
+        Some((four_at(s, at), Place { at: at + 4 }))
     }
 
     // The stretch of so many bytes at the place.
-    pub fn part(self, s: &[u8], len: usize) -> Stretch
+    pub fn part(self, s: &[u8], len: usize) -> Option<(Span, Place)>
         ensures { result ≡ part_at len s.now self.at }
     {
         let at = self.at;
         if s.len() < at {
-            return Stretch::Bad;
+            return None;
         }
         if s.len() - at < len {
-            return Stretch::Bad;
+            return None;
         }
-        Stretch::Part(at, len, Place { at: at + len })
+        let found = Span {
+            start: at,
+            len: len,
+        };
+        Some((found, Place { at: at + len }))
     }
 
     // An object's number from `least` to 255, where the bit of a weight stands in the map.
-    pub fn object(self, s: &[u8], map: usize, weight: usize, least: usize) -> Field
+    pub fn object(self, s: &[u8], map: usize, weight: usize, least: usize) -> Option<(usize, Place)>
         requires { 0 < weight }
         ensures { result ≡ object_at (stands_in map weight) least s.now self.at }
     {
         if stands(map, weight) {
-            let Field::Number(v, next) = self.two(s) else {
-                return Field::Bad;
+            let Some((v, next)) = self.two(s) else {
+                return None;
             };
             if in_limits(v, least, 255) {
-                return Field::Number(v, next);
+                return Some((v, next));
             }
-            return Field::Bad;
+            return None;
         }
-        Field::Number(0, self)
+        Some((0, self))
     }
 
     // An offset of 4 bytes, field 6.
-    pub fn offset(self, s: &[u8], map: usize) -> Field
+    pub fn offset(self, s: &[u8], map: usize) -> Option<(usize, Place)>
         ensures { result ≡ offset_at (stands_in map 64) s.now self.at }
     {
         if stands(map, 64) {
             return self.four(s);
         }
-        Field::Number(0, self)
+        Some((0, self))
     }
 
     // A name behind its length, where the bit of a weight stands in the map.
-    pub fn name(self, s: &[u8], map: usize, weight: usize) -> Stretch
+    pub fn name(self, s: &[u8], map: usize, weight: usize) -> Option<(Span, Place)>
         requires { 0 < weight }
         ensures { result ≡ name_at (stands_in map weight) s.now self.at }
     {
         if stands(map, weight) {
-            let Field::Number(len, p) = self.one(s) else {
-                return Stretch::Bad;
+            let Some((len, p)) = self.one(s) else {
+                return None;
             };
-            let Stretch::Part(start, n, next) = p.part(s, len) else {
-                return Stretch::Bad;
+            let Some((found, next)) = p.part(s, len) else {
+                return None;
             };
-            return match name_text(stretch_of(s, start, n)) {
-                NameText::Fine => Stretch::Part(start, n, next),
-                NameText::Bad => Stretch::Bad,
-                NameText::Long => Stretch::Bad,
+            return match name_text(stretch_of(s, found.start, found.len)) {
+                Ok(()) => Some((found, next)),
+                Err(_) => None,
             };
         }
-        Stretch::Part(0, 0, self)
+        Some((NOWHERE, self))
     }
 
     // Data of 1..1,024 bytes behind their length, field 7.
-    pub fn block(self, s: &[u8], map: usize) -> Stretch
+    pub fn block(self, s: &[u8], map: usize) -> Option<(Span, Place)>
         ensures { result ≡ block_at (stands_in map 128) s.now self.at }
     {
         if stands(map, 128) {
-            let Field::Number(len, p) = self.two(s) else {
-                return Stretch::Bad;
+            let Some((len, p)) = self.two(s) else {
+                return None;
             };
             if in_limits(len, 1, BLOCK) {
                 return p.part(s, len);
             }
-            return Stretch::Bad;
+            return None;
         }
-        Stretch::Part(0, 0, self)
+        Some((NOWHERE, self))
     }
 
     // A list of 1..8 different objects behind their count, field 8.
-    pub fn list(self, s: &[u8], map: usize) -> Stretch
+    pub fn list(self, s: &[u8], map: usize) -> Option<(Span, Place)>
         ensures { result ≡ list_at (stands_in map 256) s.now self.at }
     {
         if stands(map, 256) {
-            let Field::Number(count, p) = self.one(s) else {
-                return Stretch::Bad;
+            let Some((count, p)) = self.one(s) else {
+                return None;
             };
-            let Stretch::Part(start, n, next) = p.part(s, count + count) else {
-                return Stretch::Bad;
+            let Some((found, next)) = p.part(s, count + count) else {
+                return None;
             };
-            if good_list(stretch_of(s, start, n)) {
-                return Stretch::Part(start, n, next);
+            if good_list(stretch_of(s, found.start, found.len)) {
+                return Some((found, next));
             }
-            return Stretch::Bad;
+            return None;
         }
-        Stretch::Part(0, 0, self)
+        Some((NOWHERE, self))
     }
 
     // The map, sequence, program and kind, with the map one of the kind's.
-    pub fn head(self, s: &[u8]) -> Headed
+    pub fn head(self, s: &[u8]) -> Option<(Head, Place)>
         ensures { result ≡ head_at s.now self.at }
     {
-        let Field::Number(map, p) = self.two(s) else {
-            return Headed::Bad;
+        let Some((map, p)) = self.two(s) else {
+            return None;
         };
-        let Field::Number(sequence, q) = p.four(s) else {
-            return Headed::Bad;
+        let Some((sequence, q)) = p.four(s) else {
+            return None;
         };
-        let Field::Number(program, r) = q.one(s) else {
-            return Headed::Bad;
+        let Some((program, r)) = q.one(s) else {
+            return None;
         };
-        let Field::Number(code, t) = r.one(s) else {
-            return Headed::Bad;
+        let Some((code, t)) = r.one(s) else {
+            return None;
         };
         checked_head(map, sequence, program, code, t)
     }
 
     // Fields 0 to 3.
-    pub fn objects(self, s: &[u8], map: usize) -> ObjectFields
+    pub fn objects(self, s: &[u8], map: usize) -> Option<(Objects, Place)>
         ensures { result ≡ objects_at map s.now self.at }
     {
-        let Field::Number(object, p) = self.object(s, map, 1, 1) else {
-            return ObjectFields::Bad;
+        let Some((object, p)) = self.object(s, map, 1, 1) else {
+            return None;
         };
-        let Field::Number(parent, q) = p.object(s, map, 2, 0) else {
-            return ObjectFields::Bad;
+        let Some((parent, q)) = p.object(s, map, 2, 0) else {
+            return None;
         };
-        let Field::Number(second, r) = q.object(s, map, 4, 0) else {
-            return ObjectFields::Bad;
+        let Some((second, r)) = q.object(s, map, 4, 0) else {
+            return None;
         };
-        let Field::Number(displaced, t) = r.object(s, map, 8, 1) else {
-            return ObjectFields::Bad;
+        let Some((displaced, t)) = r.object(s, map, 8, 1) else {
+            return None;
         };
-        ObjectFields::Are(
-            Objects {
-                object: object,
-                parent: parent,
-                second: second,
-                displaced: displaced,
-            },
-            t,
-        )
+        let found = Objects {
+            object,
+            parent,
+            second,
+            displaced,
+        };
+        Some((found, t))
     }
 
     // Fields 4 and 5.
-    pub fn names(self, s: &[u8], map: usize) -> NameFields
+    pub fn names(self, s: &[u8], map: usize) -> Option<(Names, Place)>
         ensures { result ≡ names_at map s.now self.at }
     {
-        let Stretch::Part(start, len, p) = self.name(s, map, 16) else {
-            return NameFields::Bad;
+        let Some((name, p)) = self.name(s, map, 16) else {
+            return None;
         };
-        let Stretch::Part(start2, len2, q) = p.name(s, map, 32) else {
-            return NameFields::Bad;
+        let Some((second, q)) = p.name(s, map, 32) else {
+            return None;
         };
-        NameFields::Are(
-            Names {
-                name: Span {
-                    start: start,
-                    len: len,
-                },
-                second: Span {
-                    start: start2,
-                    len: len2,
-                },
-            },
-            q,
-        )
+        Some((Names { name, second }, q))
     }
 
     // Fields 6 to 8.
-    pub fn range(self, s: &[u8], map: usize) -> RangeFields
+    pub fn range(self, s: &[u8], map: usize) -> Option<(Range, Place)>
         ensures { result ≡ range_at map s.now self.at }
     {
-        let Field::Number(offset, p) = self.offset(s, map) else {
-            return RangeFields::Bad;
+        let Some((offset, p)) = self.offset(s, map) else {
+            return None;
         };
-        let Stretch::Part(start, len, q) = p.block(s, map) else {
-            return RangeFields::Bad;
+        let Some((content, q)) = p.block(s, map) else {
+            return None;
         };
-        let Stretch::Part(start2, len2, r) = q.list(s, map) else {
-            return RangeFields::Bad;
+        let Some((list, r)) = q.list(s, map) else {
+            return None;
         };
-        RangeFields::Are(
-            Range {
-                offset: offset,
-                content: Span {
-                    start: start,
-                    len: len,
-                },
-                list: Span {
-                    start: start2,
-                    len: len2,
-                },
-            },
-            r,
-        )
+        let found = Range {
+            offset,
+            content,
+            list,
+        };
+        Some((found, r))
     }
 
-    // The whole record at the place, or the refusal 20.
-    pub fn record(self, s: &[u8]) -> Reading
+    // The whole record at the place; none is the refusal 20.
+    pub fn record(self, s: &[u8]) -> Option<Whole>
         ensures { result ≡ record_at s.now self.at }
     {
-        let Headed::Is(head, p) = self.head(s) else {
-            return Reading::Bad;
+        let Some((head, p)) = self.head(s) else {
+            return None;
         };
         let map = head.map;
-        let ObjectFields::Are(objects, q) = p.objects(s, map) else {
-            return Reading::Bad;
+        let Some((objects, q)) = p.objects(s, map) else {
+            return None;
         };
-        let NameFields::Are(names, r) = q.names(s, map) else {
-            return Reading::Bad;
+        let Some((names, r)) = q.names(s, map) else {
+            return None;
         };
-        let RangeFields::Are(range, t) = r.range(s, map) else {
-            return Reading::Bad;
+        let Some((range, t)) = r.range(s, map) else {
+            return None;
         };
         if tied(map, objects, range) {
-            return Reading::Is(Whole {
-                head: head,
-                objects: objects,
-                names: names,
-                range: range,
+            return Some(Whole {
+                head,
+                objects,
+                names,
+                range,
                 next: t,
             });
         }
-        Reading::Bad
+        None
     }
 }
 
 // What stands at a place of a buffer, both ways: the one valid record whose bytes begin there, with where its parts lie and
 // the place after it; or, exactly if there is none, the refusal 20. Any buffer, any place.
-pub fn read_record(s: &[u8], at: usize) -> Reading
+pub fn read_record(s: &[u8], at: usize) -> Option<Whole>
     ensures value { result ≡ record_at s.now at }
     ensures exact { Exact s.now at result }
 {
@@ -386,26 +325,30 @@ pub fn read_record(s: &[u8], at: usize) -> Reading
 }
 
 // A head with its limits checked, and with "the map of its kind".
-fn checked_head(map: usize, sequence: usize, program: usize, code: usize, next: Place) -> Headed
+fn checked_head(
+    map: usize,
+    sequence: usize,
+    program: usize,
+    code: usize,
+    next: Place,
+) -> Option<(Head, Place)>
     ensures { result ≡ head_of map sequence program (kind_of_code code) next }
 {
-    let Coded::Is(kind) = Kind::of_code(code) else {
-        return Headed::Bad;
+    let Some(kind) = Kind::of_code(code) else {
+        return None;
     };
     if valid_head(sequence, program) {
         if kind.has_map(map) {
-            return Headed::Is(
-                Head {
-                    map: map,
-                    sequence: sequence,
-                    program: program,
-                    kind: kind,
-                },
-                next,
-            );
+            let head = Head {
+                map,
+                sequence,
+                program,
+                kind,
+            };
+            return Some((head, next));
         }
     }
-    Headed::Bad
+    None
 }
 
 // What ties two fields.

@@ -1,7 +1,10 @@
 // Lists of objects, 2 bytes an object: field 8 of a record, and what forder is lent.
+#![tactic(auto, using(crate::proofs::Lists::lists), unfolding(record::specs::Fields::valid_list, record::proofs::Laws::List::good_from))]
+
 ghost use Rattle.std.specs.Prelude.{◌≡◌, ◌+◌, ◌<◌, ◌≤◌, length, get_or, drop};
 ghost use Rattle.record.specs.Fields.{all_below, member, valid_list, objects_of};
 
+use crate::valid::in_limits;
 use buffer::number::two_at;
 
 // The object at a position of a list.
@@ -17,13 +20,10 @@ fn listed_from(list: &[u8], from: usize, object: usize) -> bool
     requires { from ≤ length (objects_of list.now) }
     ensures { result ≡ member object (drop from (objects_of list.now)) }
 {
-    let count = list.len() / 2;
-    let mut i = from;
-    while i < count {
+    for i in from..list.len() / 2 {
         if object_of(list, i) == object {
             return true;
         }
-        i += 1;
     }
     false
 }
@@ -33,22 +33,14 @@ pub fn good_list(list: &[u8]) -> bool
     ensures { result ≡ valid_list (objects_of list.now) }
 {
     let count = list.len() / 2;
-    if count < 1 {
+    if !in_limits(count, 1, 8) {
         return false;
     }
-    if 8 < count {
-        return false;
-    }
-    let mut i = 0;
-    while i < count {
+    for i in 0..count {
         let object = object_of(list, i);
-        if 255 < object {
+        if 255 < object || listed_from(list, i + 1, object) {
             return false;
         }
-        if listed_from(list, i + 1, object) {
-            return false;
-        }
-        i += 1;
     }
     true
 }
@@ -57,13 +49,10 @@ pub fn good_list(list: &[u8]) -> bool
 pub fn list_below(list: &[u8], n: usize) -> bool
     ensures { result ≡ all_below n (objects_of list.now) }
 {
-    let count = list.len() / 2;
-    let mut i = 0;
-    while i < count {
+    for i in 0..list.len() / 2 {
         if n <= object_of(list, i) {
             return false;
         }
-        i += 1;
     }
     true
 }

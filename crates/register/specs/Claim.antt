@@ -1,7 +1,7 @@
 -- The demands of document 01 on what calls do: one claim.
 use Rattle.std.specs.Prelude.{ℕ, ◌+◌, ◌<◌, ◌≡◌, ◌⊎◌, ◌↔◌, Bool, true, false, cond, length, replicate, take, eqb}
 use mathlib.Core.List.{List, [], ◌∷◌, ◌++◌, map, Memᴰ}
-use Rattle.std.proofs.Math.Option.{some}
+use Rattle.std.specs.Prelude.{Some}
 use Rattle.returned.specs.Returned
 use Rattle.record.specs.Operation.{Operation, Record, operands}
 use Rattle.record.specs.Fields.{encode, valid}
@@ -112,11 +112,11 @@ pub record Demand (g : Geometry) (v : Volume) (r : Run) : Type 0 where
   -- the view's bytes are those of the replay of the sent and the waiting ones
   pub viewed : r.last.buffers.view ≡ encode_volume g.blocks (view_of r.last.register)
   -- the three buffers are of the right form: a server volume, a view and a log are read from them
-  pub stored : (x : Model) × (decode_model g r.last.buffers ≡ some x)
+  pub stored : (x : Model) × (decode_model g r.last.buffers ≡ Some x)
   -- what waits in the log is what waits in the register
-  pub waits : (x : Model) → decode_model g r.last.buffers ≡ some x → waiting_of x.log.slots ≡ waiting_in r.last.register
+  pub waits : (x : Model) → decode_model g r.last.buffers ≡ Some x → waiting_of x.log.slots ≡ waiting_in r.last.register
   -- what a program has fetched and what it has still lost in the log is what it has lost
-  pub losses : (x : Model) → decode_model g r.last.buffers ≡ some x → (p : ℕ) → lost_records p r.last.register ≡ own_losses p r x
+  pub losses : (x : Model) → decode_model g r.last.buffers ≡ Some x → (p : ℕ) → lost_records p r.last.register ≡ own_losses p r x
   -- the sent set leaves out no predecessor of a member
   pub closed : (a c : Acknowledged) → Is a r.last.register → Is c r.last.register → is_sent c ≡ true → Precedes r.last.register a c → is_sent a ≡ true
   -- what fsync of an object needs is exactly what it covers
@@ -141,7 +141,7 @@ pub record Demand (g : Geometry) (v : Volume) (r : Run) : Type 0 where
   pub can_be_sent : (set : ℕ → Bool) → ClosedSet r.last.register r.last.register set → CouldHaveBeenSent g r.last set
   -- a program is marked in the log if and only if it depended on something discarded since mount or its last renewal
   pub marked :
-      (x : Model) → decode_model g r.last.buffers ≡ some x → (p : ℕ) → p < 32
+      (x : Model) → decode_model g r.last.buffers ≡ Some x → (p : ℕ) → p < 32
       → (holds x.log.head.marks p ≡ true) ↔ Marked r.last.register p
   -- a program's takes fetch its losses in issue order, from the first on
   pub fetched : (p : ℕ) → (left : List (List ℕ)) × (lost_records p r.last.register ≡ fetched_by p r.moments ++ left)
@@ -156,7 +156,7 @@ pub record Demand (g : Geometry) (v : Volume) (r : Run) : Type 0 where
   -- what a take wrote is read as the record of a lost operation of the program, which is valid
   pub decoded :
       (p : ℕ) (b : List ℕ) → Memᴰ b (fetched_by p r.moments)
-      → (a : Acknowledged) × Is a r.last.register × (is_lost a ≡ true) × (a.recorded.program ≡ p) × (valid a.recorded ≡ true) × (decode_record b ≡ some a.recorded)
+      → (a : Acknowledged) × Is a r.last.register × (is_lost a ≡ true) × (a.recorded.program ≡ p) × (valid a.recorded ≡ true) × (decode_record b ≡ Some a.recorded)
 
 -- two runs of which each ended in a broken link, and which acknowledged the same operations: what is lost and what was sent determine
 -- each other, and the server's bytes
@@ -166,10 +166,10 @@ pub record Determined (g h : Geometry) (r q : Run) : Type 0 where
   pub bytes : sent_in r.last.register ≡ sent_in q.last.register → r.last.buffers.server ≡ q.last.buffers.server
   -- as a host sees it, program by program: what was fetched, and then what the log still holds
   pub from_fetched :
-      (x y : Model) → decode_model g r.last.buffers ≡ some x → decode_model h q.last.buffers ≡ some y
+      (x y : Model) → decode_model g r.last.buffers ≡ Some x → decode_model h q.last.buffers ≡ Some y
       → ((p : ℕ) → p < 32 → own_losses p r x ≡ own_losses p q y) → sent_in r.last.register ≡ sent_in q.last.register
   pub to_fetched :
-      (x y : Model) → decode_model g r.last.buffers ≡ some x → decode_model h q.last.buffers ≡ some y
+      (x y : Model) → decode_model g r.last.buffers ≡ Some x → decode_model h q.last.buffers ≡ Some y
       → sent_in r.last.register ≡ sent_in q.last.register → (p : ℕ) → own_losses p r x ≡ own_losses p q y
 
 -- the last call of a run broke the link
@@ -239,4 +239,4 @@ pub record Demands : Type 0 where
       (g : Geometry) (s : Buffers) (x : Model) → Stores g s x → (p o k : ℕ) → (step g (fsync p o k) s).gives.returned ≡ Returned.damaged
       → Stopped g k x (needed o (waiting_of x.log.slots)) (step g (fsync p o k) s)
   -- a loss record is read if and only if it could be written: bytes begin with a valid record's, and are read as that record
-  pub read : (s : List ℕ) (q : Record) → (decode_record s ≡ some q) ↔ ((valid q ≡ true) × ((rest : List ℕ) × (s ≡ encode q ++ rest)))
+  pub read : (s : List ℕ) (q : Record) → (decode_record s ≡ Some q) ↔ ((valid q ≡ true) × ((rest : List ℕ) × (s ≡ encode q ++ rest)))

@@ -1,7 +1,7 @@
 -- Document 01, "The register" and "Order and dependence": how a call's arguments and answers change the register, sentence by sentence.
 -- Nothing here goes by what a call does to the buffers.
 use Rattle.std.specs.Prelude.{ℕ, ◌+◌, ◌-◌, List, [], ◌∷◌, ◌++◌, map, Bool, false, ◌&&◌, ◌||◌, cond, length, get_or, drop, leb, eqb}
-use Rattle.std.proofs.Math.Option.{Option, none, some}
+use Rattle.std.specs.Prelude.{Option, None, Some}
 use Rattle.std.proofs.Math.ListN
 use Rattle.returned.specs.Returned
 use Rattle.paths.specs.Path.{components}
@@ -40,13 +40,13 @@ needed_for o r = covered_in (has_object o) r
 
 -- the operation on what a name leads to; none where it leads to nothing
 abbrev pub on_found : Option ℕ → (ℕ → Operation) → List Operation
-on_found none f = []
-on_found (some o) f = f o ∷ []
+on_found None f = []
+on_found (Some o) f = f o ∷ []
 
 -- what a rename's second name leads to is displaced, unless it is the object itself
 abbrev pub displacing : ℕ → Option ℕ → Option ℕ
-displacing o none = none
-displacing o (some i) = cond (eqb i o) none (some i)
+displacing o None = None
+displacing o (Some i) = cond (eqb i o) None (Some i)
 
 -- "wholly inside the length (overwrite) or beginning at the length (append)"; across the end of the file "an overwrite and then an append"
 -- (document 02, K1), of the bytes up to the length and of the rest
@@ -69,8 +69,8 @@ operations_in v (forder s) = Operation.forder (objects_of s) ∷ []
 
 -- "the directories it searches and the object found": from one on, a name after the other
 abbrev pub onward : Option ℕ → (ℕ → List ℕ) → List ℕ
-onward none f = []
-onward (some i) f = f i
+onward None f = []
+onward (Some i) f = f i
 
 unfoldable pub passed : Volume → ℕ → List (List ℕ) → List ℕ
 passed v d [] = d ∷ []

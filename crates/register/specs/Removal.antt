@@ -1,7 +1,7 @@
 -- Document 02, K4, "Remove becomes two calls": what the removes of a list of calls took, from the view and from the server.
 use Rattle.std.specs.Prelude.{ℕ, ◌+◌, ◌≡◌, Bool, true, false, length}
 use mathlib.Core.List.{List, [], ◌∷◌, ◌++◌, Memᴰ}
-use Rattle.std.proofs.Math.Option.{some}
+use Rattle.std.specs.Prelude.{Some}
 use Rattle.record.specs.Operation.{Operation, Record, record_of}
 use Rattle.volume_entry.specs.Entry.{Entry, is_file, is_directory}
 use Rattle.volume_tree.specs.Volume.{Volume, entry_at, search, has_children}
@@ -34,7 +34,7 @@ pub record OnServer (kind : Entry → Bool) (v : Volume) (r : Register) (q : Rec
 pub record Removed (g : Geometry) (v : Volume) (r : Run) (kind : Entry → Bool) (m : Moment) (program parent : ℕ) (name : List ℕ) : Type 0 where
   -- in the view it is what the name leads to
   pub object : ℕ
-  pub found : search (view_of m.before.register) parent name ≡ some object
+  pub found : search (view_of m.before.register) parent name ≡ Some object
   pub seen : Bare kind (view_of m.before.register) object
   -- "Kind 3 stays in the record"
   pub removal : Acknowledged

@@ -2,7 +2,7 @@
 -- each with the buffers as the last one left them, and the register fed with each call's arguments and answers.
 use Rattle.std.specs.Prelude.{ℕ, ◌≡◌, Bool, ◌&&◌}
 use mathlib.Core.List.{List, [], ◌∷◌, ◌++◌, map, Memᴰ}
-use Rattle.std.proofs.Math.Option.{some}
+use Rattle.std.specs.Prelude.{Some}
 use Rattle.record.specs.Operation.{Record}
 use Rattle.volume_tree.specs.Volume.{Volume}
 use Rattle.volume_tree.specs.Stored.{decode_volume}
@@ -43,7 +43,7 @@ run g (c ∷ cs) s =
 -- "The list starts as an accepted mount leaves the buffers": v is the server volume as mounted, what the server's bytes then hold
 pub record Mounted (g : Geometry) (s : Buffers) (v : Volume) : Type 0 where
   pub accepted : (mount g s).gives.returned ≡ 0
-  pub server : decode_volume g.objects g.blocks (mount g s).leaves.server ≡ some v
+  pub server : decode_volume g.objects g.blocks (mount g s).leaves.server ≡ Some v
 
 abbrev pub play : Geometry → Buffers → Volume → List Call → Run
 play g s v cs = run g cs (record { buffers = (mount g s).leaves; register = begun v })

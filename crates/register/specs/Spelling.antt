@@ -1,7 +1,7 @@
 -- Document 02, K2, "Letter case in names": what holds of names on whole lists of calls, and of buffers with two names that are the same.
 use Rattle.std.specs.Prelude.{ℕ, ◌+◌, ◌≡◌, true, length}
 use mathlib.Core.List.{List, [], ◌∷◌, ◌++◌, Memᴰ}
-use Rattle.std.proofs.Math.Option.{none, some}
+use Rattle.std.specs.Prelude.{None, Some}
 use Rattle.names.specs.Name.{same_name}
 use Rattle.record.specs.Operation.{Operation, Record, record_of}
 use Rattle.volume_entry.specs.Entry.{name_of}
@@ -37,24 +37,24 @@ pub record SameNames (m : Moment) : Type 0 where
 -- what such a rename does
 pub record NewSpelling (g : Geometry) (m : Moment) (w : SameNames m) : Type 0 where
   pub object : ℕ
-  pub found : search (view_of m.before.register) w.parent w.name ≡ some object
+  pub found : search (view_of m.before.register) w.parent w.name ≡ Some object
   -- it is logged without a displaced object, and "records keep both names as typed"
   pub renaming : Acknowledged
   pub added : (next g m.call m.before).register.operations ≡ m.before.register.operations ++ (renaming ∷ [])
   pub waits : renaming.fate ≡ waiting
   pub logged :
       renaming.recorded
-      ≡ record_of (length m.before.register.operations + 1) w.by.program (Operation.rename object w.parent w.parent none w.name w.second_name)
+      ≡ record_of (length m.before.register.operations + 1) w.by.program (Operation.rename object w.parent w.parent None w.name w.second_name)
   -- it "displaces nothing and changes the stored spelling", and "only the stored spelling itself changes nothing"
   pub view : Respelled (view_of m.before.register) (view_of (next g m.call m.before).register) object w.second_name
 
 -- after a list of calls on what an accepted mount of the volume v left
 pub record Spellings (g : Geometry) (v : Volume) (r : Run) : Type 0 where
   -- no two names of one directory are the same, neither on the server nor in the view
-  pub apart : (x : Model) → decode_model g r.last.buffers ≡ some x → (TwoAlike x.server → ⊥) × (TwoAlike x.view → ⊥)
+  pub apart : (x : Model) → decode_model g r.last.buffers ≡ Some x → (TwoAlike x.server → ⊥) × (TwoAlike x.view → ⊥)
   -- a rename of the list that only changes the case does that and no more
   pub renamed : (m : Moment) → Memᴰ m r.moments → (w : SameNames m) → NewSpelling g m w
   -- and so does a sent one, where it stands among the sent ones, on the server
   pub sent :
       (before after : List Record) (q : Record) → sent_in r.last.register ≡ before ++ (q ∷ after)
-      → (o p : ℕ) (n k : List ℕ) → q.operation ≡ Operation.rename o p p none n k → Respelled (replay v before) (replay v (before ++ (q ∷ []))) o k
+      → (o p : ℕ) (n k : List ℕ) → q.operation ≡ Operation.rename o p p None n k → Respelled (replay v before) (replay v (before ++ (q ∷ []))) o k

@@ -3,12 +3,13 @@ use mathlib.Core.Bool.{true}
 use prog.Linked.{Tree, World, Holds, in_world}
 use prog.LinkedThreads.{HasT}
 use Rattle.returned.proofs.TheLink as link
-use Rattle.returned.proofs.Code.of.Symbol as s-Code-of
+use Rattle.returned.proofs.CodeFromResultUnitRefusal.from.Symbol as s-CodeFromResultUnitRefusal-from
+use Rattle.returned.proofs.Refusal.number.Symbol as s-Refusal-number
+use Rattle.returned.proofs.Refusal.rank.Symbol as s-Refusal-rank
 use Rattle.returned.proofs.Status.of.Symbol as s-Status-of
 use Rattle.returned.proofs.Status.refused.Symbol as s-Status-refused
 use Rattle.returned.proofs.Value.of.Symbol as s-Value-of
-use Rattle.returned.proofs.Value.refused.Symbol as s-Value-refused
-use Rattle.returned.proofs.rank.Symbol as s-rank
+use Rattle.returned.proofs.ValueFromResultUsizeRefusal.from.Symbol as s-ValueFromResultUsizeRefusal-from
 
 -- the crate's table
 pub table-returned : Tree
@@ -26,9 +27,17 @@ below : (W : World) → Needs-returned W → link.Below W
 unfolding Needs-returned
 below W n = tt
 
-pub linked-Code-of : (W : World) → Needs-returned W → HasT (in_world W) true s-Code-of.code
+pub linked-CodeFromResultUnitRefusal-from : (W : World) → Needs-returned W → HasT (in_world W) true s-CodeFromResultUnitRefusal-from.code
 unfolding Needs-returned table-returned
-linked-Code-of W n = link.linked-returned::Code::of W n.0 (below W n)
+linked-CodeFromResultUnitRefusal-from W n = link.linked-returned::CodeFromResultUnitRefusal::from W n.0 (below W n)
+
+pub linked-Refusal-number : (W : World) → Needs-returned W → HasT (in_world W) true s-Refusal-number.code
+unfolding Needs-returned table-returned
+linked-Refusal-number W n = link.linked-returned::Refusal::number W n.0 (below W n)
+
+pub linked-Refusal-rank : (W : World) → Needs-returned W → HasT (in_world W) true s-Refusal-rank.code
+unfolding Needs-returned table-returned
+linked-Refusal-rank W n = link.linked-returned::Refusal::rank W n.0 (below W n)
 
 pub linked-Status-of : (W : World) → Needs-returned W → HasT (in_world W) true s-Status-of.code
 unfolding Needs-returned table-returned
@@ -42,10 +51,6 @@ pub linked-Value-of : (W : World) → Needs-returned W → HasT (in_world W) tru
 unfolding Needs-returned table-returned
 linked-Value-of W n = link.linked-returned::Value::of W n.0 (below W n)
 
-pub linked-Value-refused : (W : World) → Needs-returned W → HasT (in_world W) true s-Value-refused.code
+pub linked-ValueFromResultUsizeRefusal-from : (W : World) → Needs-returned W → HasT (in_world W) true s-ValueFromResultUsizeRefusal-from.code
 unfolding Needs-returned table-returned
-linked-Value-refused W n = link.linked-returned::Value::refused W n.0 (below W n)
-
-pub linked-rank : (W : World) → Needs-returned W → HasT (in_world W) true s-rank.code
-unfolding Needs-returned table-returned
-linked-rank W n = link.linked-returned::rank W n.0 (below W n)
+linked-ValueFromResultUsizeRefusal-from W n = link.linked-returned::ValueFromResultUsizeRefusal::from W n.0 (below W n)

@@ -1,2 +1,4 @@
+pub mod Laws
+pub mod Refusal
 pub mod Returned
 pub mod Shapes

@@ -1,58 +1,50 @@
-// What a call returns (document 01, "Returned numbers"): the numbers by name, and the shapes in which an entry hands its returned
-// number and its other results to C. The numbers' definitions are in specs/Returned.antt.
+// What a call returns (document 01, "Returned numbers"): the refusals with their numbers, and the shapes in which an entry hands its
+// returned number and its other results to C. The numbers' definitions are in specs/Returned.antt.
 #![tactic(auto)]
 
 ghost use Rattle.std.specs.Prelude.{◌≡◌};
+ghost use Rattle.returned.specs.Refusal.{refusal_number, number_of, value_or0};
 ghost use Rattle.returned.specs.Returned.{rank_of};
 ghost use Rattle.returned.specs.Shapes.{code, value, status};
 
-pub const ACCEPTED: usize = 0;
+// What a call is refused for, each reason with its returned number.
+#[derive(Clone, Copy, PartialEq, Eq)]
+pub enum Refusal {
+    WrongBuffer = 1,
+    Damaged = 2,
+    BadProgram = 3,
+    Marked = 4,
+    BadName = 5,
+    LongName = 6,
+    BadNumber = 7,
+    NoObject = 8,
+    WrongKind = 9,
+    Taken = 10,
+    NotEmpty = 11,
+    BadRange = 12,
+    LogFull = 13,
+    Spent = 14,
+    NotFirst = 15,
+    NotFound = 16,
+    LinkLost = 17,
+    LossesLeft = 18,
+    ShortBuffer = 19,
+    BadRecord = 20,
+}
 
-pub const WRONG_BUFFER: usize = 1;
+impl Refusal {
+    pub fn number(self) -> usize
+        ensures { result ≡ refusal_number self }
+    {
+        self as usize
+    }
 
-pub const DAMAGED: usize = 2;
-
-pub const BAD_PROGRAM: usize = 3;
-
-pub const MARKED: usize = 4;
-
-pub const BAD_NAME: usize = 5;
-
-pub const LONG_NAME: usize = 6;
-
-pub const BAD_NUMBER: usize = 7;
-
-pub const NO_OBJECT: usize = 8;
-
-pub const WRONG_KIND: usize = 9;
-
-pub const TAKEN: usize = 10;
-
-pub const NOT_EMPTY: usize = 11;
-
-pub const BAD_RANGE: usize = 12;
-
-pub const LOG_FULL: usize = 13;
-
-pub const SPENT: usize = 14;
-
-pub const NOT_FIRST: usize = 15;
-
-pub const NONE: usize = 16;
-
-pub const LINK_LOST: usize = 17;
-
-pub const LOSSES_LEFT: usize = 18;
-
-pub const SHORT_BUFFER: usize = 19;
-
-pub const BAD_RECORD: usize = 20;
-
-// The rank of a number: of two that refuse a call the one of the lower rank wins.
-pub fn rank(number: usize) -> usize
-    ensures { result ≡ rank_of number }
-{
-    number
+    // The rank of a refusal: of two that refuse a call the one of the lower rank wins.
+    pub fn rank(self) -> usize
+        ensures { result ≡ rank_of (refusal_number self) }
+    {
+        self.number()
+    }
 }
 
 // The returned number alone.
@@ -80,12 +72,27 @@ pub struct Status {
     pub usage: u64,
 }
 
-impl Code {
-    pub fn of(number: usize) -> Code
-        ensures { result ≡ code number }
-    {
-        Code {
-            returned: number as u64,
+impl From<Result<(), Refusal>> for Code {
+    ghost from_gives = { λ r c. c ≡ code (number_of r) };
+
+    fn from(res: Result<(), Refusal>) -> Code {
+        match res {
+            Ok(()) => Code { returned: 0 },
+            Err(refusal) => Code {
+                returned: refusal.number() as u64,
+            },
+        }
+    }
+}
+
+// "The other results of a refusal are 0".
+impl From<Result<usize, Refusal>> for Value {
+    ghost from_gives = { λ r c. c ≡ value (number_of r) (value_or0 r) };
+
+    fn from(res: Result<usize, Refusal>) -> Value {
+        match res {
+            Ok(res) => Value::of(0, res),
+            Err(refusal) => Value::of(refusal.number(), 0),
         }
     }
 }
@@ -98,13 +105,6 @@ impl Value {
             returned: number as u64,
             value: res as u64,
         }
-    }
-
-    // "The other results of a refusal are 0".
-    pub fn refused(number: usize) -> Value
-        ensures { result ≡ value number 0 }
-    {
-        Value::of(number, 0)
     }
 }
 

@@ -1,11 +1,6 @@
 -- Document 02, K5, "A longest wait for each size of file": the rows that teachers edit, and when they are as they should be.
 use Rattle.std.specs.Prelude.{ℕ, suc, ◌+◌, ◌≤◌, ◌≡◌, List, [], ◌∷◌, Bool, false, not, ◌&&◌, ◌||◌, cond, leb, ltb, eqb}
-
--- "shortest length, longest length, seconds (1 to 3,600)"
-pub record Row : Type 0 where
-  pub shortest : ℕ
-  pub longest : ℕ
-  pub seconds : ℕ
+use Rattle.rows.specs.declared.Row.{Row}
 
 -- a length lies in a row; "A row whose shortest is above its longest holds no length."
 abbrev pub in_row : ℕ → Row → Bool

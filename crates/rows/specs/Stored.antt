@@ -1,7 +1,7 @@
 -- Document 02, K5: rows in bytes, "12 bytes a row, in that order": "shortest length, longest length, seconds", each number in 4 bytes.
 use Rattle.std.specs.Prelude.{ℕ, zero, suc, ◌^◌, ◌/◌, ◌%◌, List, [], ◌∷◌, ◌++◌, Bool, true, ◌&&◌, length, take, drop, replicate, leb, ltb, eqb}
 use Rattle.buffer.specs.Numeral.{bytes, numeral}
-use Rattle.rows.specs.Rows.{Row}
+use Rattle.rows.specs.declared.Row.{Row}
 
 abbrev pub row_bytes : ℕ
 row_bytes = 12

@@ -1,12 +1,15 @@
 // Document 02, K5, "A longest wait for each size of file": rows as they are lent, read row by row, and when an operation is due.
 #![tactic(auto)]
 
-ghost use Rattle.std.specs.Prelude.{◌≡◌, true, ◌&&◌, ◌+◌, ◌*◌, ◌/◌, ◌<◌, min, length, drop, leb};
-ghost use Rattle.rows.specs.Rows.{in_row, rows_with, is_left_out, is_doubled, has_gap, has_overlap, has_bad_seconds};
+ghost use Rattle.std.specs.Prelude.{◌≡◌, true, ◌+◌, ◌<◌, ◌≤◌, min, List, length, drop, Bool, cond};
+ghost use Rattle.std.specs.List.{slice_get};
+ghost use Rattle.rows.specs.Rows.{in_row, good_seconds, rows_with, any_row, is_left_out, is_doubled, has_gap, has_overlap, has_bad_seconds};
 ghost use Rattle.rows.specs.Stored.{row_bytes, read_row, rows_in, rows_fit};
+ghost use Rattle.rows.specs.declared.Row.{Row};
 ghost use Rattle.rows.specs.Due.{last_time, time_now, due_time};
 
 use buffer::number::four_at;
+use std::marker::Model;
 
 // "12 bytes a row".
 pub const ROW: usize = 12;
@@ -20,149 +23,165 @@ const LAST_LENGTH: usize = 65536;
 // The last time: a number of 4 bytes.
 const LAST_TIME: usize = 4294967295;
 
-// Whether bytes are whole rows, 16 at most: "over 16 rows, or a part of one, are refusal 1".
-pub fn rows_fit(rows: &[u8]) -> bool
-    ensures { result ≡ rows_fit rows.now }
-{
-    if rows.len() % ROW == 0 {
-        return rows.len() / ROW <= ROWS;
-    }
-    false
+// "shortest length, longest length, seconds (1 to 3,600)".
+#[derive(Clone, Copy)]
+pub struct Row {
+    pub shortest: u32,
+    pub longest: u32,
+    pub seconds: u32,
 }
 
-// The shortest length of a row.
-fn shortest(rows: &[u8], i: usize) -> usize
-    requires { i < length rows.now / row_bytes }
-    ensures { (result ≡ (read_row (drop (i * row_bytes) rows.now)).shortest) × (result < 4294967296) }
-{
-    four_at(rows, i * ROW)
-}
-
-// The longest length of a row.
-fn longest(rows: &[u8], i: usize) -> usize
-    requires { i < length rows.now / row_bytes }
-    ensures { (result ≡ (read_row (drop (i * row_bytes) rows.now)).longest) × (result < 4294967296) }
-{
-    four_at(rows, i * ROW + 4)
-}
-
-// The seconds of a row.
-fn seconds(rows: &[u8], i: usize) -> usize
-    requires { i < length rows.now / row_bytes }
-    ensures { (result ≡ (read_row (drop (i * row_bytes) rows.now)).seconds) × (result < 4294967296) }
-{
-    four_at(rows, i * ROW + 8)
-}
-
-// Whether a length lies in a row.
-fn lies_in(rows: &[u8], i: usize, n: usize) -> bool
-    requires { i < length rows.now / row_bytes }
-    ensures { result ≡ in_row n (read_row (drop (i * row_bytes) rows.now)) }
-{
-    if shortest(rows, i) <= n {
-        return n <= longest(rows, i);
-    }
-    false
-}
-
-// In how many rows a length lies.
-pub fn rows_with(rows: &[u8], n: usize) -> usize
-    requires { rows_fit rows.now ≡ true }
-    ensures { result ≡ rows_with n (rows_in rows.now) }
-{
-    let count = rows.len() / ROW;
-    let mut held = 0;
-    let mut i = 0;
-    while i < count {
-        if lies_in(rows, i, n) {
-            held += 1;
+impl Row {
+    // The row at a place of some bytes.
+    fn read(bytes: &[u8], at: usize) -> Row
+        requires { at + row_bytes ≤ length bytes.now }
+        ensures { result ≡ read_row (drop at bytes.now) }
+    {
+        Row {
+            shortest: four_at(bytes, at) as u32,
+            longest: four_at(bytes, at + 4) as u32,
+            seconds: four_at(bytes, at + 8) as u32,
         }
-        i += 1;
     }
-    held
+
+    // Whether a length lies in the row.
+    fn holds(self, n: usize) -> bool
+        ensures { result ≡ in_row n self }
+    {
+        self.shortest as usize <= n && n <= self.longest as usize
+    }
+
+    // Whether its seconds are "1 to 3,600".
+    fn has_good_seconds(self) -> bool
+        ensures { result ≡ good_seconds self }
+    {
+        1 <= self.seconds && self.seconds <= 3600
+    }
 }
 
-// Whether a length is one up to 65,536 in no row.
-fn is_left_out(rows: &[u8], n: usize) -> bool
-    requires { rows_fit rows.now ≡ true }
-    ensures { result ≡ is_left_out (rows_in rows.now) n }
-{
-    if n <= LAST_LENGTH {
-        return rows_with(rows, n) == 0;
-    }
-    false
+// Rows as they are lent: whole rows, 16 at most.
+#[derive(Drop)]
+pub struct Rows<'a> {
+    bytes: &'a [u8],
 }
 
-// Whether a length is one up to 65,536 in more than one row.
-fn is_doubled(rows: &[u8], n: usize) -> bool
-    requires { rows_fit rows.now ≡ true }
-    ensures { result ≡ is_doubled (rows_in rows.now) n }
-{
-    if n <= LAST_LENGTH {
-        return 1 < rows_with(rows, n);
-    }
-    false
+impl<'a> Model for Rows<'a> {
+    ghost Value = { List Row };
+
+    ghost view = { λ r. rows_in r.bytes.now };
+
+    ghost invariant = { λ r. rows_fit r.bytes.now ≡ true };
 }
 
-// "a length up to 65,536 in no row": 0 is asked, and the length behind each row's longest.
-pub fn has_gap(rows: &[u8]) -> bool
-    requires { rows_fit rows.now ≡ true }
-    ensures { result ≡ has_gap (rows_in rows.now) }
-{
-    if is_left_out(rows, 0) {
-        return true;
-    }
-    let count = rows.len() / ROW;
-    let mut i = 0;
-    while i < count {
-        if is_left_out(rows, longest(rows, i) + 1) {
-            return true;
+impl<'a> Rows<'a> {
+    // The rows that bytes hold: "over 16 rows, or a part of one, are refusal 1".
+    pub fn of(bytes: &'a [u8]) -> Option<Rows<'a>>
+        ensures { result ≡ cond (rows_fit bytes.now) (Some (rows_in bytes.now)) None }
+    {
+        if bytes.len() % ROW == 0 && bytes.len() / ROW <= ROWS {
+            Some(Rows { bytes })
+        } else {
+            None
         }
-        i += 1;
     }
-    false
-}
 
-// "one in more than one row": the shortest of each row is asked.
-pub fn has_overlap(rows: &[u8]) -> bool
-    requires { rows_fit rows.now ≡ true }
-    ensures { result ≡ has_overlap (rows_in rows.now) }
-{
-    let count = rows.len() / ROW;
-    let mut i = 0;
-    while i < count {
-        if is_doubled(rows, shortest(rows, i)) {
-            return true;
+    // How many rows there are.
+    #[tactic(auto, using(crate::proofs::Laws::Walk::rows_read))]
+    fn count(&self) -> usize
+        ensures { result ≡ length self.now }
+    {
+        self.bytes.len() / ROW
+    }
+
+    // The row at a position.
+    #[tactic(auto, using(crate::proofs::Laws::Walk::rows_read))]
+    fn row(&self, i: usize) -> Row
+        requires { i < length self.now }
+        ensures { slice_get self.now i ≡ Some result }
+    {
+        Row::read(self.bytes, i * ROW)
+    }
+
+    // Whether some row passes a test.
+    #[tactic(auto, using(crate::proofs::Laws::Walk::tests))]
+    fn any_row<F: Fn(Row) -> bool>(&self, test: F) -> bool
+        requires { F.IsAlwaysCallable test }
+        ensures { (f : Row → Bool) → ((r : Row) (t : Bool) → F.post test r t → t ≡ f r) → result ≡ any_row f self.now }
+    {
+        for i in 0..self.count() {
+            if test(self.row(i)) {
+                return true;
+            }
         }
-        i += 1;
+        false
     }
-    false
-}
 
-// Whether seconds are "1 to 3,600".
-fn good_seconds(seconds: usize) -> bool
-    ensures { result ≡ leb 1 seconds && leb seconds 3600 }
-{
-    if 1 <= seconds {
-        return seconds <= 3600;
-    }
-    false
-}
-
-// "seconds out of range", in any row.
-pub fn has_bad_seconds(rows: &[u8]) -> bool
-    requires { rows_fit rows.now ≡ true }
-    ensures { result ≡ has_bad_seconds (rows_in rows.now) }
-{
-    let count = rows.len() / ROW;
-    let mut i = 0;
-    while i < count {
-        if !good_seconds(seconds(rows, i)) {
-            return true;
+    // In how many rows a length lies.
+    #[tactic(auto, using(crate::proofs::Laws::Walk::walks))]
+    pub fn rows_with(&self, n: usize) -> usize
+        ensures { result ≡ rows_with n self.now }
+    {
+        let mut held = 0;
+        for i in 0..self.count() {
+            if self.row(i).holds(n) {
+                held += 1;
+            }
         }
-        i += 1;
+        held
     }
-    false
+
+    // Whether a length is one up to 65,536 in no row.
+    fn is_left_out(&self, n: usize) -> bool
+        ensures { result ≡ is_left_out self.now n }
+    {
+        n <= LAST_LENGTH && self.rows_with(n) == 0
+    }
+
+    // Whether a length is one up to 65,536 in more than one row.
+    fn is_doubled(&self, n: usize) -> bool
+        ensures { result ≡ is_doubled self.now n }
+    {
+        n <= LAST_LENGTH && 1 < self.rows_with(n)
+    }
+
+    // "a length up to 65,536 in no row": 0 is asked, and the length behind each row's longest.
+    #[tactic(auto, unfolding(crate::specs::Rows::has_gap))]
+    pub fn has_gap(&self) -> bool
+        ensures { result ≡ has_gap self.now }
+    {
+        self.is_left_out(0) || self.any_row(|row| self.is_left_out(row.longest as usize + 1))
+    }
+
+    // "one in more than one row": the shortest of each row is asked.
+    #[tactic(auto, unfolding(crate::specs::Rows::has_overlap))]
+    pub fn has_overlap(&self) -> bool
+        ensures { result ≡ has_overlap self.now }
+    {
+        self.any_row(|row| self.is_doubled(row.shortest as usize))
+    }
+
+    // "seconds out of range", in any row.
+    #[tactic(auto, unfolding(crate::specs::Rows::has_bad_seconds))]
+    pub fn has_bad_seconds(&self) -> bool
+        ensures { result ≡ has_bad_seconds self.now }
+    {
+        self.any_row(|row| !row.has_good_seconds())
+    }
+
+    // When an operation is due, by its issue time and the length: "its issue time plus the seconds for the length".
+    #[tactic(auto, using(crate::proofs::Laws::Walk::walks), unfolding(crate::specs::Due::due_time))]
+    pub fn due_time(&self, time: usize, n: usize) -> usize
+        requires { time < 4294967296 }
+        ensures { (result ≡ due_time time n self.now) × (result < 4294967296) }
+    {
+        for i in 0..self.count() {
+            let row = self.row(i);
+            if row.holds(n) {
+                return later(time, row.seconds as usize);
+            }
+        }
+        LAST_TIME
+    }
 }
 
 // A time plus some seconds: "It stops at 4,294,967,295".
@@ -172,37 +191,15 @@ fn later(time: usize, seconds: usize) -> usize
     ensures { (result ≡ min last_time (time + seconds)) × (result < 4294967296) }
 {
     let due = time + seconds;
-    if due < LAST_TIME {
-        return due;
-    }
-    LAST_TIME
-}
-
-// When an operation is due, by its issue time and the length: "its issue time plus the seconds for the length".
-pub fn due_time(rows: &[u8], time: usize, n: usize) -> usize
-    requires rows_value { rows_fit rows.now ≡ true }
-    requires time_bound { time < 4294967296 }
-    ensures { (result ≡ due_time time n (rows_in rows.now)) × (result < 4294967296) }
-{
-    let count = rows.len() / ROW;
-    let mut i = 0;
-    while i < count {
-        if lies_in(rows, i, n) {
-            return later(time, seconds(rows, i));
-        }
-        i += 1;
-    }
-    LAST_TIME
+    if due < LAST_TIME { due } else { LAST_TIME }
 }
 
 // "an earlier time than one already seen counts as the latest seen".
+#[tactic(auto, unfolding(crate::specs::Due::time_now))]
 pub fn time_now(clock: usize, latest: usize) -> usize
     requires clock_bound { clock < 4294967296 }
     requires latest_bound { latest < 4294967296 }
     ensures { (result ≡ time_now clock latest) × (result < 4294967296) }
 {
-    if clock < latest {
-        return latest;
-    }
-    clock
+    if clock < latest { latest } else { clock }
 }

@@ -1,7 +1,8 @@
 // The calls, each on the parts of the areas that are lent.
 use returned::{Code, Status, Value};
 use script_commands::answer::Answer;
-use script_words::command::{Arguments, Command, takes_bytes, writes_buffer};
+use script_commands::front::front;
+use script_words::command::{Call, Change, Control, Entry, Given, Operation, Question};
 use writebehind::loss::Loss;
 use writebehind::{
     wb_create, wb_cut, wb_forder, wb_format, wb_fsync, wb_list, wb_lookup, wb_mkdir, wb_mount,
@@ -9,143 +10,175 @@ use writebehind::{
     wb_setlen, wb_stat, wb_take, wb_write,
 };
 
-// The numbers passed in every call.
-#[derive(Clone, Copy)]
-pub struct Given {
-    pub n: u64,
-    pub b: u64,
-    pub m: u64,
-}
-
 // A call that returns its code alone.
 fn code(r: Code) -> Answer {
-    Answer {
-        count: 1,
-        numbers: [r.returned, 0, 0, 0, 0],
-        shown: false,
-    }
+    Answer::Code([r.returned])
 }
 
 // A call with one more result.
 fn value(r: Value) -> Answer {
-    Answer {
-        count: 2,
-        numbers: [r.returned, r.value, 0, 0, 0],
-        shown: false,
-    }
+    Answer::Value([r.returned, r.value])
 }
 
-// A call with one more result and its buffer.
-fn with_buffer(r: Value) -> Answer {
-    Answer {
-        count: 2,
-        numbers: [r.returned, r.value, 0, 0, 0],
-        shown: true,
-    }
+// A call with one more result and its buffer, of which so many bytes were lent.
+fn shown(r: Value, lent: usize) -> Answer {
+    Answer::Shown([r.returned, r.value], lent)
 }
 
 // `stat` has three more results.
-fn stat(r: Status) -> Answer {
-    Answer {
-        count: 4,
-        numbers: [r.returned, r.kind, r.length, r.usage, 0],
-        shown: false,
-    }
+fn status(r: Status) -> Answer {
+    Answer::Status([r.returned, r.kind, r.length, r.usage])
 }
 
 // `record` has four more results.
-fn record(r: Loss) -> Answer {
-    Answer {
-        count: 5,
-        numbers: [r.returned, r.next, r.sequence, r.program, r.kind],
-        shown: false,
-    }
+fn loss(r: Loss) -> Answer {
+    Answer::Loss([r.returned, r.next, r.sequence, r.program, r.kind])
 }
 
-// The calls with numbers only.
-fn call_numbers(
-    c: Command,
-    a: Arguments,
-    g: Given,
+// So many of the bytes of a buffer, or as many as there are.
+fn head(s: &[u8], n: usize) -> &[u8] {
+    &s[..front(n, s)]
+}
+
+fn head_mut(s: &mut [u8], n: usize) -> &mut [u8] {
+    let end = front(n, s);
+    &mut s[..end]
+}
+
+// A call that sets up, sends or gives up.
+fn call_control(
+    c: Control,
+    given: Given,
     server: &mut [u8],
     view: &mut [u8],
     log: &mut [u8],
 ) -> Answer {
+    let Given { n, b, m } = given;
     match c {
-        Command::Format => code(wb_format(g.n, g.b, g.m, server)),
-        Command::Mount => code(wb_mount(g.n, g.b, g.m, server, view, log)),
-        Command::Stat => stat(wb_stat(g.n, g.b, g.m, server, view, log, a.x, a.y)),
-        Command::Setlen => value(wb_setlen(g.n, g.b, g.m, server, view, log, a.x, a.y, a.z)),
-        Command::Push => code(wb_push(g.n, g.b, g.m, server, view, log, a.x)),
-        Command::Fsync => value(wb_fsync(g.n, g.b, g.m, server, view, log, a.x, a.y, a.z)),
-        Command::Renew => code(wb_renew(g.n, g.b, g.m, server, view, log, a.x)),
-        _ => code(wb_cut(g.n, g.b, g.m, server, view, log)),
+        Control::Format => code(wb_format(n, b, m, server)),
+        Control::Mount => code(wb_mount(n, b, m, server, view, log)),
+        Control::Push { sequence } => code(wb_push(n, b, m, server, view, log, sequence)),
+        Control::Fsync { object: o, sends } => value(wb_fsync(
+            n, b, m, server, view, log, o.program, o.number, sends,
+        )),
+        Control::Cut => code(wb_cut(n, b, m, server, view, log)),
+        Control::Renew { program } => code(wb_renew(n, b, m, server, view, log, program)),
     }
 }
 
-// The calls that are given bytes.
-fn call_bytes(
-    c: Command,
-    a: Arguments,
-    g: Given,
-    server: &mut [u8],
+// A call that asks.
+fn call_question(
+    c: Question,
+    given: Given,
+    server: &[u8],
+    view: &[u8],
+    log: &mut [u8],
+    first: &mut [u8],
+) -> Answer {
+    let Given { n, b, m } = given;
+    match c {
+        Question::Lookup { program, path } => {
+            let path = head(first, path);
+            value(wb_lookup(n, b, m, server, view, log, program, path))
+        }
+        Question::List { object: o, buffer } => {
+            let list = head_mut(first, buffer);
+            let r = wb_list(n, b, m, server, view, log, o.program, o.number, list);
+            shown(r, buffer)
+        }
+        Question::Stat(o) => status(wb_stat(n, b, m, server, view, log, o.program, o.number)),
+        Question::Read {
+            object: o,
+            at,
+            buffer,
+        } => {
+            let data = head_mut(first, buffer);
+            let r = wb_read(n, b, m, server, view, log, o.program, o.number, at, data);
+            shown(r, buffer)
+        }
+        Question::Take { program, buffer } => {
+            let records = head_mut(first, buffer);
+            let r = wb_take(n, b, m, server, view, log, program, records);
+            shown(r, buffer)
+        }
+        Question::Record { at, bytes } => loss(wb_record(at, head(first, bytes))),
+    }
+}
+
+// A call that issues an operation.
+fn call_operation(
+    c: Operation,
+    given: Given,
+    server: &[u8],
     view: &mut [u8],
     log: &mut [u8],
     first: &[u8],
     second: &[u8],
-) -> Answer {
+) -> Value {
+    let Given { n, b, m } = given;
     match c {
-        Command::Lookup => value(wb_lookup(g.n, g.b, g.m, server, view, log, a.x, first)),
-        Command::Create => value(wb_create(g.n, g.b, g.m, server, view, log, a.x, a.y, first, a.z)),
-        Command::Mkdir => value(wb_mkdir(g.n, g.b, g.m, server, view, log, a.x, a.y, first, a.z)),
-        Command::Rmfile => value(wb_remove_file(g.n, g.b, g.m, server, view, log, a.x, a.y, first)),
-        Command::Rmdir => value(wb_remove_directory(
-            g.n, g.b, g.m, server, view, log, a.x, a.y, first,
-        )),
-        Command::Rename => value(wb_rename(
-            g.n, g.b, g.m, server, view, log, a.x, a.y, first, a.z, second,
-        )),
-        Command::Write => value(wb_write(g.n, g.b, g.m, server, view, log, a.x, a.y, a.z, first)),
-        Command::Forder => value(wb_forder(g.n, g.b, g.m, server, view, log, a.x, first)),
-        _ => record(wb_record(a.x, first)),
+        Operation::Name(e, c) => call_name(e, c, given, server, view, log, first, second),
+        Operation::Write {
+            object: o,
+            at,
+            bytes,
+        } => {
+            let data = head(first, bytes);
+            wb_write(n, b, m, server, view, log, o.program, o.number, at, data)
+        }
+        Operation::Setlen { object: o, length } => {
+            wb_setlen(n, b, m, server, view, log, o.program, o.number, length)
+        }
+        Operation::Forder { program, list } => {
+            wb_forder(n, b, m, server, view, log, program, head(first, list))
+        }
     }
 }
 
-// The calls that write a buffer.
-fn call_buffer(
-    c: Command,
-    a: Arguments,
-    g: Given,
-    server: &mut [u8],
+// A call that issues an operation on a name.
+fn call_name(
+    e: Entry,
+    c: Change,
+    given: Given,
+    server: &[u8],
     view: &mut [u8],
     log: &mut [u8],
-    buffer: &mut [u8],
-) -> Answer {
+    first: &[u8],
+    second: &[u8],
+) -> Value {
+    let Given { n, b, m } = given;
+    let old = head(first, e.name);
     match c {
-        Command::List => with_buffer(wb_list(g.n, g.b, g.m, server, view, log, a.x, a.y, buffer)),
-        Command::Read => with_buffer(wb_read(
-            g.n, g.b, g.m, server, view, log, a.x, a.y, a.z, buffer,
-        )),
-        _ => with_buffer(wb_take(g.n, g.b, g.m, server, view, log, a.x, buffer)),
+        Change::Create(object) => {
+            wb_create(n, b, m, server, view, log, e.program, e.parent, old, object)
+        }
+        Change::Mkdir(object) => {
+            wb_mkdir(n, b, m, server, view, log, e.program, e.parent, old, object)
+        }
+        Change::Rmfile => wb_remove_file(n, b, m, server, view, log, e.program, e.parent, old),
+        Change::Rmdir => wb_remove_directory(n, b, m, server, view, log, e.program, e.parent, old),
+        Change::Rename { to, name } => {
+            let new = head(second, name);
+            wb_rename(
+                n, b, m, server, view, log, e.program, e.parent, old, to, new,
+            )
+        }
     }
 }
 
-// Makes the call of a command.
-pub fn call(
-    c: Command,
-    a: Arguments,
-    g: Given,
+// Makes a call.
+pub(crate) fn make_call(
+    call: Call,
+    given: Given,
     server: &mut [u8],
     view: &mut [u8],
     log: &mut [u8],
     first: &mut [u8],
     second: &[u8],
 ) -> Answer {
-    if writes_buffer(c) {
-        return call_buffer(c, a, g, server, view, log, first);
+    match call {
+        Call::Control(c) => call_control(c, given, server, view, log),
+        Call::Question(c) => call_question(c, given, server, view, log, first),
+        Call::Operation(c) => value(call_operation(c, given, server, view, log, first, second)),
     }
-    if takes_bytes(c) {
-        return call_bytes(c, a, g, server, view, log, first, second);
-    }
-    call_numbers(c, a, g, server, view, log)
 }

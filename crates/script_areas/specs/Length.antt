@@ -1,7 +1,12 @@
 -- The script format: lengths "reckoned without overflow (where one exceeds 32,768: `bad line`)".
-use Rattle.std.specs.Prelude.{◌≡◌, ℕ, ◌<◌, ◌≤◌}
+use Rattle.std.specs.Prelude.{◌≡◌, ℕ, ◌<◌, ◌≤◌, Option, None, Some}
+use Rattle.script_areas.specs.declared.length.Lengths.{Lengths}
 
--- a length is exact where an area holds it, and else over an area's length too
-pub record Reckoned (exact r : ℕ) : Type 0 where
-  pub within : r ≤ 32768 → r ≡ exact
-  pub over : 32768 < r → 32768 < exact
+-- a length is exact, or none where it is over an area's length
+abbrev pub Reckoned : ℕ → Option ℕ → Type 0
+Reckoned exact (Some r) = r ≡ exact
+Reckoned exact None = 32768 < exact
+
+-- lengths of which none exceeds an area
+abbrev pub Within : Lengths → Type 0
+Within l = (l.server ≤ 32768) × (l.view ≤ 32768) × (l.log ≤ 32768)

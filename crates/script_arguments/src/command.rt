@@ -1,112 +1,145 @@
-// The command of a word.
-use check::same;
-use script_words::command::Command;
+// The command of a word, with the arguments behind it.
+ghost use Rattle.std.specs.Prelude.{◌≤◌, length};
 
-// The command of a word.
-pub fn command_of(w: &[u8]) -> Command {
-    let c = area_command(w);
-    let Command::Unknown = c else {
-        return c;
+use crate::arguments::Arguments;
+use script_words::command::{Call, Change, Command, Control, Operation, Play, Question};
+
+// The command of a word: one on the areas and the numbers given, or else a call.
+pub(crate) fn read_command(
+    word: &[u8],
+    a: &mut Arguments<'_>,
+    first: &mut [u8],
+    second: &mut [u8],
+) -> Option<Command>
+    requires { (2048 ≤ length first.old) × (2048 ≤ length second.old) }
+{
+    let play = match word {
+        b"give" => Play::Give(a.given()?),
+        b"size" => Play::Size {
+            server: a.number()?,
+            view: a.number()?,
+            log: a.number()?,
+        },
+        b"fit" => Play::Fit,
+        b"poke" => Play::Poke {
+            area: a.area()?,
+            at: a.number()?,
+            bytes: a.bytes(first)?,
+        },
+        b"copy" => Play::Copy {
+            to: a.area()?,
+            from: a.area()?,
+        },
+        b"show" => Play::Show {
+            area: a.area()?,
+            at: a.number()?,
+            count: a.number()?,
+        },
+        b"digest" => Play::Digest,
+        _ => return Some(Command::Call(read_call(word, a, first, second)?)),
     };
-    let d = question_command(w);
-    let Command::Unknown = d else {
-        return d;
+    Some(Command::Play(play))
+}
+
+// A call: one that sets up, sends or gives up, or else a question or an operation.
+fn read_call(
+    word: &[u8],
+    a: &mut Arguments<'_>,
+    first: &mut [u8],
+    second: &mut [u8],
+) -> Option<Call>
+    requires { (2048 ≤ length first.old) × (2048 ≤ length second.old) }
+{
+    let control = match word {
+        b"format" => Control::Format,
+        b"mount" => Control::Mount,
+        b"push" => Control::Push {
+            sequence: a.number()?,
+        },
+        b"fsync" => Control::Fsync {
+            object: a.object()?,
+            sends: a.number()?,
+        },
+        b"cut" => Control::Cut,
+        b"renew" => Control::Renew {
+            program: a.number()?,
+        },
+        _ => return read_question(word, a, first, second),
     };
-    change_command(w)
+    Some(Call::Control(control))
 }
 
-// The commands on the areas and the numbers given.
-fn area_command(w: &[u8]) -> Command {
-    if same(w, b"give") {
-        return Command::Give;
-    }
-    if same(w, b"size") {
-        return Command::Size;
-    }
-    if same(w, b"fit") {
-        return Command::Fit;
-    }
-    if same(w, b"poke") {
-        return Command::Poke;
-    }
-    if same(w, b"copy") {
-        return Command::Copy;
-    }
-    if same(w, b"show") {
-        return Command::Show;
-    }
-    if same(w, b"digest") {
-        return Command::Digest;
-    }
-    if same(w, b"format") {
-        return Command::Format;
-    }
-    if same(w, b"mount") {
-        return Command::Mount;
-    }
-    Command::Unknown
+// A question, or else an operation.
+fn read_question(
+    word: &[u8],
+    a: &mut Arguments<'_>,
+    first: &mut [u8],
+    second: &mut [u8],
+) -> Option<Call>
+    requires { (2048 ≤ length first.old) × (2048 ≤ length second.old) }
+{
+    let question = match word {
+        b"lookup" => Question::Lookup {
+            program: a.number()?,
+            path: a.bytes(first)?,
+        },
+        b"list" => Question::List {
+            object: a.object()?,
+            buffer: a.bytes(first)?,
+        },
+        b"stat" => Question::Stat(a.object()?),
+        b"read" => Question::Read {
+            object: a.object()?,
+            at: a.number()?,
+            buffer: a.bytes(first)?,
+        },
+        b"take" => Question::Take {
+            program: a.number()?,
+            buffer: a.bytes(first)?,
+        },
+        b"record" => Question::Record {
+            at: a.number()?,
+            bytes: a.bytes(first)?,
+        },
+        _ => return Some(Call::Operation(read_operation(word, a, first, second)?)),
+    };
+    Some(Call::Question(question))
 }
 
-// The calls that ask or send.
-fn question_command(w: &[u8]) -> Command {
-    if same(w, b"lookup") {
-        return Command::Lookup;
-    }
-    if same(w, b"list") {
-        return Command::List;
-    }
-    if same(w, b"stat") {
-        return Command::Stat;
-    }
-    if same(w, b"read") {
-        return Command::Read;
-    }
-    if same(w, b"push") {
-        return Command::Push;
-    }
-    if same(w, b"fsync") {
-        return Command::Fsync;
-    }
-    if same(w, b"cut") {
-        return Command::Cut;
-    }
-    if same(w, b"take") {
-        return Command::Take;
-    }
-    if same(w, b"renew") {
-        return Command::Renew;
-    }
-    if same(w, b"record") {
-        return Command::Record;
-    }
-    Command::Unknown
-}
-
-// The calls that issue an operation.
-fn change_command(w: &[u8]) -> Command {
-    if same(w, b"create") {
-        return Command::Create;
-    }
-    if same(w, b"mkdir") {
-        return Command::Mkdir;
-    }
-    if same(w, b"rmfile") {
-        return Command::Rmfile;
-    }
-    if same(w, b"rmdir") {
-        return Command::Rmdir;
-    }
-    if same(w, b"rename") {
-        return Command::Rename;
-    }
-    if same(w, b"write") {
-        return Command::Write;
-    }
-    if same(w, b"setlen") {
-        return Command::Setlen;
-    }
-    if same(w, b"forder") {
-        return Command::Forder;
-    }
-    Command::Unknown
+// An operation.
+fn read_operation(
+    word: &[u8],
+    a: &mut Arguments<'_>,
+    first: &mut [u8],
+    second: &mut [u8],
+) -> Option<Operation>
+    requires { (2048 ≤ length first.old) × (2048 ≤ length second.old) }
+{
+    Some(match word {
+        b"create" => Operation::Name(a.entry(first)?, Change::Create(a.number()?)),
+        b"mkdir" => Operation::Name(a.entry(first)?, Change::Mkdir(a.number()?)),
+        b"rmfile" => Operation::Name(a.entry(first)?, Change::Rmfile),
+        b"rmdir" => Operation::Name(a.entry(first)?, Change::Rmdir),
+        b"rename" => Operation::Name(
+            a.entry(first)?,
+            Change::Rename {
+                to: a.number()?,
+                name: a.bytes(second)?,
+            },
+        ),
+        b"write" => Operation::Write {
+            object: a.object()?,
+            at: a.number()?,
+            bytes: a.bytes(first)?,
+        },
+        b"setlen" => Operation::Setlen {
+            object: a.object()?,
+            length: a.number()?,
+        },
+        b"forder" => Operation::Forder {
+            program: a.number()?,
+            list: a.bytes(first)?,
+        },
+        _ => return None,
+    })
 }

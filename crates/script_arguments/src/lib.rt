@@ -1,4 +1,4 @@
-// A line of a call script, read: its command and the command's arguments.
+// A line of a call script, read: its command with the command's arguments.
 #![tactic(auto)]
 
 pub mod arguments;

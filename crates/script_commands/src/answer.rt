@@ -1,58 +1,68 @@
 // What a line prints.
 ghost use Rattle.std.specs.Prelude.{◌+◌, ◌≤◌, length};
 
+use crate::front::front;
 use buffer::put::put_bytes;
 use script_bytes::put_hex;
 use script_words::number::put_number;
 
-// The numbers that a call prints, the first `count` of five; `shown` says that the buffer follows.
+// The numbers that a line prints.
 #[derive(Clone, Copy)]
-pub struct Answer {
-    pub count: usize,
-    pub numbers: [u64; 5],
-    pub shown: bool,
+pub enum Answer {
+    // The returned number alone.
+    Code([u64; 1]),
+    // One more result.
+    Value([u64; 2]),
+    // One more result, and the buffer, of which so many bytes were lent.
+    Shown([u64; 2], usize),
+    // The digests of the areas.
+    Digests([u64; 3]),
+    // `stat` has three more results.
+    Status([u64; 4]),
+    // `record` has four more results.
+    Loss([u64; 5]),
 }
 
-// A space and a number.
-fn put_spaced(v: u64, out: &mut [u8], at: usize) -> usize
-    requires { at + 21 ≤ length out.old }
-    ensures { result ≤ at + 21 }
-{
-    out[at] = b' ';
-    put_number(v, out, at + 1)
+impl Answer {
+    fn numbers(&self) -> &[u64]
+        ensures { length result.now ≤ 5 }
+    {
+        match self {
+            Answer::Code(numbers) => numbers,
+            Answer::Value(numbers) | Answer::Shown(numbers, _) => numbers,
+            Answer::Digests(numbers) => numbers,
+            Answer::Status(numbers) => numbers,
+            Answer::Loss(numbers) => numbers,
+        }
+    }
 }
 
-// The numbers, of which there is one at least, separated by single spaces.
-fn put_numbers(a: Answer, out: &mut [u8]) -> usize
-    requires { 105 ≤ length out.old }
+// The numbers, separated by single spaces.
+fn put_numbers(numbers: &[u64], out: &mut [u8]) -> usize
+    requires { (length numbers.now ≤ 5) × (105 ≤ length out.old) }
     ensures { result ≤ 105 }
 {
-    let count = a.count;
-    let numbers = a.numbers;
-    let mut at = put_number(numbers[0], out, 0);
-    let mut i = 1;
-    while i < 5 {
-        if count <= i {
-            return at;
+    let mut at = 0;
+    for (i, &v) in numbers.iter().enumerate() {
+        if 0 < i {
+            out[at] = b' ';
+            at += 1;
         }
-        at = put_spaced(numbers[i], out, at);
-        i += 1;
+        at = put_number(v, out, at);
     }
     at
 }
 
-// The whole line of a call.
-pub fn put_answer(a: Answer, buffer: &[u8], out: &mut [u8]) -> usize
+// The whole line of a call, and of a digest.
+pub fn put_answer(answer: &Answer, buffer: &[u8], out: &mut [u8]) -> usize
     requires { (length buffer.now ≤ 2048) × (4352 ≤ length out.old) }
     ensures { result ≤ length out.old }
 {
-    let shown = a.shown;
-    let at = put_numbers(a, out);
-    if shown {
+    let mut at = put_numbers(answer.numbers(), out);
+    if let Answer::Shown(_, lent) = answer {
+        let n = front(*lent, buffer);
         out[at] = b' ';
-        let end = put_hex(buffer, out, at + 1);
-        out[end] = b'\n';
-        return end + 1;
+        at = put_hex(&buffer[..n], out, at + 1);
     }
     out[at] = b'\n';
     at + 1

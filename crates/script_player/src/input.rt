@@ -33,9 +33,9 @@ pub fn next_line<R: Read>(input: &mut R, buf: &mut [u8], from: usize, to: usize)
         if end < held {
             return Ok(Line {
                 start: at,
-                end: end,
+                end,
                 next: end + 1,
-                held: held,
+                held,
                 last: false,
             });
         }
@@ -44,7 +44,7 @@ pub fn next_line<R: Read>(input: &mut R, buf: &mut [u8], from: usize, to: usize)
                 start: at,
                 end: held,
                 next: held,
-                held: held,
+                held,
                 last: true,
             });
         }
@@ -57,7 +57,7 @@ pub fn next_line<R: Read>(input: &mut R, buf: &mut [u8], from: usize, to: usize)
                 start: 0,
                 end: held,
                 next: held,
-                held: held,
+                held,
                 last: true,
             });
         }

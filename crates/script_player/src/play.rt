@@ -1,122 +1,77 @@
 // One line played, up to the call that it makes.
-ghost use Rattle.std.specs.Prelude.{◌≡◌, ◌≤◌, OnOk, length};
+ghost use Rattle.std.specs.Prelude.{◌≤◌, IfOk, OnOk, length};
 ghost use Rattle.script_commands.specs.Room.{Areas, Room};
 ghost use Rattle.script_player.specs.Line.{Grown};
 
-use script_arguments::line::{Read, read_line};
+use script_arguments::line::read_line;
 use script_commands::answer::{Answer, put_answer, put_bad};
-use script_commands::commands::{Played, State, play_areas, printed, refused};
-use script_commands::front::front;
-use script_words::command::{Arguments, Command, is_call};
+use script_commands::commands::{State, play_areas};
+use script_words::command::{BadLine, Call, Command};
 use std::io::{self, Write};
 
-// A line played: whether its call is still to be made, with the command and the arguments; whether the script goes on, and
-// what stays.
+// What is to be done after a line.
 #[derive(Clone, Copy)]
-pub struct Turn {
-    pub call: bool,
-    pub command: Command,
-    pub arguments: Arguments,
-    pub going: bool,
-    pub state: State,
+pub enum Turn {
+    // Its call is to be made.
+    Call(Call),
+    // The next line is to be played.
+    Next,
+    // Nothing more: it was a bad line.
+    End,
 }
 
-// The state before the first line.
-pub fn start() -> State {
-    State {
-        n: 0,
-        b: 0,
-        m: 0,
-        server: 0,
-        view: 0,
-        log: 0,
-    }
-}
-
-// Whether a line makes a call.
-fn calls(r: Read) -> bool {
-    let c = r.command;
-    let a = r.arguments;
-    if r.empty {
-        return false;
-    }
-    if !a.good {
-        return false;
-    }
-    is_call(c)
-}
-
-// Whether a line has a command that is no call.
-fn commands(r: Read) -> bool {
-    let c = r.command;
-    let a = r.arguments;
-    if r.empty {
-        return false;
-    }
-    if !a.good {
-        return false;
-    }
-    !is_call(c)
-}
-
-// Any other line: it is bad if it has words, and not those that its command wants.
-fn passed(r: Read, st: State) -> Played
-    ensures { result.written ≡ 0 }
-{
-    let a = r.arguments;
-    if r.empty {
-        return printed(0, st);
-    }
-    if a.good {
-        return printed(0, st);
-    }
-    refused(st)
-}
-
-// Plays a line that was read, but for its call.
-fn play_read(
-    r: Read,
-    st: State,
+// Plays a line, but for its call, and says how many bytes it prints and what is to be done.
+fn play_line(
+    line: &[u8],
+    state: &mut State,
     s: &mut [u8],
     v: &mut [u8],
     l: &mut [u8],
-    first: &[u8],
+    first: &mut [u8],
+    second: &mut [u8],
     out: &mut [u8],
-) -> Played
-    requires { Areas s.old v.old l.old × (4352 ≤ length out.old) }
-    ensures { result.written ≤ length out.old }
+) -> Result<(usize, Turn), BadLine>
+    requires { Areas s.old v.old l.old × Room first.old second.old × (4352 ≤ length out.old) }
+    ensures { IfOk result (λ played. played.0 ≤ length out.old) }
 {
-    if commands(r) {
-        let c = r.command;
-        let a = r.arguments;
-        return play_areas(c, a, st, s, v, l, first, out);
+    match read_line(line, first, second)? {
+        None => Ok((0, Turn::Next)),
+        Some(Command::Call(call)) => Ok((0, Turn::Call(call))),
+        Some(Command::Play(play)) => {
+            let written = play_areas(play, state, s, v, l, first, out).ok_or(BadLine)?;
+            Ok((written, Turn::Next))
+        }
     }
-    passed(r, st)
 }
 
-// Writes what a line prints, `bad line` and its number too, and says whether the script goes on. Fails where the write does, with
-// the write's error; what the output then holds is for the writer to say.
-fn tell<W: Write>(output: &mut W, p: Played, number: u64, out: &mut [u8]) -> io::Result<bool>
-    requires { (p.written ≤ length out.old) × (4352 ≤ length out.old) }
-    ensures { OnOk result (Grown (W.contents output.old) (W.contents output.new)) }
+// The same, where a bad line prints `bad line` and its number.
+fn play_any(
+    line: &[u8],
+    number: u64,
+    state: &mut State,
+    s: &mut [u8],
+    v: &mut [u8],
+    l: &mut [u8],
+    first: &mut [u8],
+    second: &mut [u8],
+    out: &mut [u8],
+) -> (usize, Turn)
+    requires { Areas s.old v.old l.old × Room first.old second.old × (4352 ≤ length out.old) }
+    ensures { result.0 ≤ length out.old }
 {
-    if p.bad {
-        let end = put_bad(number, out);
-        output.write_all(&out[..end])?;
-        return Ok(false);
+    match play_line(line, state, s, v, l, first, second, out) {
+        Ok(played) => played,
+        Err(BadLine) => (put_bad(number, out), Turn::End),
     }
-    let written = p.written;
-    output.write_all(&out[..written])?;
-    Ok(true)
 }
 
-// Plays a line, given with its number and without its newline. Fails where what it prints cannot be written, with the write's
-// error: its command has been played then as on `Ok`, and what the output holds is for the writer to say.
+// Plays a line, given with its number and without its newline, and writes what it prints. Fails where that cannot be written,
+// with the write's error: its command has been played then as on `Ok`, and what the output holds is for the writer to say.
 pub fn play<W: Write>(
     output: &mut W,
     line: &[u8],
     number: u64,
-    st: State,
+    state: &mut State,
     s: &mut [u8],
     v: &mut [u8],
     l: &mut [u8],
@@ -128,34 +83,18 @@ pub fn play<W: Write>(
     ensures left { Areas s.new v.new l.new × Room first.new second.new }
 {
     let mut out = [0u8; 4352];
-    let r = read_line(line, first, second);
-    let c = r.command;
-    let a = r.arguments;
-    let p = play_read(r, st, s, v, l, first, &mut out);
-    let state = p.state;
-    let going = tell(output, p, number, &mut out)?;
-    Ok(Turn {
-        call: calls(r),
-        command: c,
-        arguments: a,
-        going: going,
-        state: state,
-    })
+    let (written, turn) = play_any(line, number, state, s, v, l, first, second, &mut out);
+    output.write_all(&out[..written])?;
+    Ok(turn)
 }
 
-// Writes the line of a call, which shows so many bytes of its buffer. Fails where it cannot be written, with the write's error; it
+// Writes the line of a call, which shows of its buffer what was lent. Fails where it cannot be written, with the write's error; it
 // changes the output alone, and what that then holds is for the writer to say.
-pub fn tell_answer<W: Write>(
-    output: &mut W,
-    answer: Answer,
-    shown: usize,
-    buffer: &[u8],
-) -> io::Result<()>
+pub fn tell_answer<W: Write>(output: &mut W, answer: &Answer, buffer: &[u8]) -> io::Result<()>
     requires { length buffer.now ≤ 2048 }
     ensures { OnOk result (Grown (W.contents output.old) (W.contents output.new)) }
 {
     let mut out = [0u8; 4352];
-    let n = front(shown, buffer);
-    let end = put_answer(answer, &buffer[..n], &mut out);
+    let end = put_answer(answer, buffer, &mut out);
     output.write_all(&out[..end])
 }

@@ -1,75 +1,133 @@
-// The commands of a script, and the arguments that a line gives them.
+// The commands of a script, each with its arguments. A `usize` counts bytes that were given: those at the start of the first
+// buffer, and for a second name those at the start of the second.
 
-// The commands of the script format; `Unknown` is none of them.
+// One of the three areas.
+#[derive(Clone, Copy)]
+pub enum Area {
+    Server,
+    View,
+    Log,
+}
+
+// The numbers passed in every call.
+#[derive(Clone, Copy, Default)]
+pub struct Given {
+    pub n: u64,
+    pub b: u64,
+    pub m: u64,
+}
+
+// A line that is no command with its arguments, or asks for what cannot be: a bad line.
+#[derive(Clone, Copy)]
+pub struct BadLine;
+
+// What a line asks for.
 #[derive(Clone, Copy)]
 pub enum Command {
-    Give,
-    Size,
+    Play(Play),
+    Call(Call),
+}
+
+// A command on the areas and on the numbers given.
+#[derive(Clone, Copy)]
+pub enum Play {
+    Give(Given),
+    Size { server: u64, view: u64, log: u64 },
     Fit,
-    Poke,
-    Copy,
-    Show,
+    Poke { area: Area, at: u64, bytes: usize },
+    Copy { to: Area, from: Area },
+    Show { area: Area, at: u64, count: u64 },
     Digest,
+}
+
+// An object, and the program that asks.
+#[derive(Clone, Copy)]
+pub struct Object {
+    pub program: u64,
+    pub number: u64,
+}
+
+// A name in a directory, and the program that asks.
+#[derive(Clone, Copy)]
+pub struct Entry {
+    pub program: u64,
+    pub parent: u64,
+    pub name: usize,
+}
+
+// A call.
+#[derive(Clone, Copy)]
+pub enum Call {
+    Control(Control),
+    Question(Question),
+    Operation(Operation),
+}
+
+// A call that sets up, sends or gives up.
+#[derive(Clone, Copy)]
+pub enum Control {
     Format,
     Mount,
-    Lookup,
-    List,
-    Stat,
-    Read,
-    Create,
-    Mkdir,
+    Push { sequence: u64 },
+    Fsync { object: Object, sends: u64 },
+    Cut,
+    Renew { program: u64 },
+}
+
+// A call that asks.
+#[derive(Clone, Copy)]
+pub enum Question {
+    Lookup {
+        program: u64,
+        path: usize,
+    },
+    List {
+        object: Object,
+        buffer: usize,
+    },
+    Stat(Object),
+    Read {
+        object: Object,
+        at: u64,
+        buffer: usize,
+    },
+    Take {
+        program: u64,
+        buffer: usize,
+    },
+    Record {
+        at: u64,
+        bytes: usize,
+    },
+}
+
+// A call that issues an operation.
+#[derive(Clone, Copy)]
+pub enum Operation {
+    Name(Entry, Change),
+    Write {
+        object: Object,
+        at: u64,
+        bytes: usize,
+    },
+    Setlen {
+        object: Object,
+        length: u64,
+    },
+    Forder {
+        program: u64,
+        list: usize,
+    },
+}
+
+// What is asked for a name.
+#[derive(Clone, Copy)]
+pub enum Change {
+    // The number of the object that is made.
+    Create(u64),
+    Mkdir(u64),
     Rmfile,
     Rmdir,
-    Rename,
-    Write,
-    Setlen,
-    Forder,
-    Push,
-    Fsync,
-    Cut,
-    Take,
-    Renew,
-    Record,
-    Unknown,
-}
-
-// Whether a command is a call, not one on the areas and the numbers given.
-pub fn is_call(c: Command) -> bool {
-    match c {
-        Command::Give | Command::Size | Command::Fit | Command::Poke | Command::Copy => false,
-        Command::Show | Command::Digest => false,
-        _ => true,
-    }
-}
-
-// Whether a command is a call that writes a buffer.
-pub fn writes_buffer(c: Command) -> bool {
-    match c {
-        Command::List | Command::Read | Command::Take => true,
-        _ => false,
-    }
-}
-
-// Whether a command is a call that is given bytes.
-pub fn takes_bytes(c: Command) -> bool {
-    match c {
-        Command::Lookup | Command::Create | Command::Mkdir | Command::Rmfile | Command::Rmdir =>
-            true,
-        Command::Rename | Command::Write | Command::Forder | Command::Record => true,
-        _ => false,
-    }
-}
-
-// The arguments of a line in their order: up to three numbers, where an area counts as the number 0, 1 or 2, and the counts of up to
-// two stretches of bytes. `good` says that every word so far was what the command wants.
-#[derive(Clone, Copy)]
-pub struct Arguments {
-    pub good: bool,
-    pub numbers: usize,
-    pub x: u64,
-    pub y: u64,
-    pub z: u64,
-    pub stretches: usize,
-    pub first: usize,
-    pub second: usize,
+    // The directory that it goes to, and the name there.
+    Rename { to: u64, name: usize },
 }

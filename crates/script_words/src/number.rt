@@ -2,56 +2,36 @@
 ghost use Rattle.std.specs.Prelude.{◌≡◌, ◌+◌, ◌≤◌, length};
 ghost use Rattle.buffer.specs.Patch.{Put};
 ghost use Rattle.text.specs.Decimal.{decimal};
-ghost use Rattle.script_words.specs.Number.{NumberOf};
+ghost use Rattle.script_words.specs.Number.{DigitOf, NumberOf};
 
 use text::decimal::put_decimal;
 
-// What a word is as a number.
-#[derive(Clone, Copy)]
-pub enum Number {
-    Is(u64),
-    Refused,
-}
-
 // The value of a byte as a digit.
-fn digit(c: u8) -> u64
-    requires { (48 ≤ c) × (c ≤ 57) }
-    ensures { result + 48 ≡ c }
+fn digit(c: u8) -> Option<u64>
+    ensures { DigitOf c result }
 {
-    (c - 48) as u64
+    match c {
+        b'0'..=b'9' => Some(u64::from(c - b'0')),
+        _ => None,
+    }
 }
 
 // Reads "decimal digits, 0 to 18,446,744,073,709,551,615, no sign, no needless leading zero".
-pub fn read_number(w: &[u8]) -> Number
+pub fn read_number(w: &[u8]) -> Option<u64>
     ensures { NumberOf w.now result }
 {
-    if w.len() == 0 {
-        return Number::Refused;
-    }
-    if w[0] == 48 {
-        if w.len() == 1 {
-            return Number::Is(0);
-        }
-        return Number::Refused;
+    let [first, ..] = w else {
+        return None;
+    };
+    if *first == b'0' {
+        return if w.len() == 1 { Some(0) } else { None };
     }
     let mut v: u64 = 0;
-    let mut i = 0;
-    while i < w.len() {
-        let c = w[i];
-        if c < 48 {
-            return Number::Refused;
-        }
-        if 57 < c {
-            return Number::Refused;
-        }
-        let d = digit(c);
-        if (u64::MAX - d) / 10 < v {
-            return Number::Refused;
-        }
-        v = 10 * v + d;
-        i += 1;
+    for &c in w {
+        let d = digit(c)?;
+        v = v.checked_mul(10)?.checked_add(d)?;
     }
-    Number::Is(v)
+    Some(v)
 }
 
 // Puts a number at a place, and answers the place after it.

@@ -6,12 +6,5 @@ ghost use Rattle.script_words.specs.Word.{before};
 pub fn until(s: &[u8], b: u8) -> usize
     ensures { (result ≤ length s.now) × (take result s.now ≡ before b s.now) }
 {
-    let mut i = 0;
-    while i < s.len() {
-        if s[i] == b {
-            return i;
-        }
-        i += 1;
-    }
-    i
+    s.iter().position(|&x| x == b).unwrap_or(s.len())
 }

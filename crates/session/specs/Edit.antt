@@ -1,6 +1,6 @@
 -- Document 01, "Calls" and "Returned numbers": the changes and forder, each a table of refusals.
 use Rattle.std.specs.Prelude.{ℕ, ◌+◌, ◌*◌, ◌%◌, List, [], ◌∷◌, ◌++◌, Bool, false, not, ◌&&◌, ◌||◌, length, ltb, eqb}
-use Rattle.std.proofs.Math.Option.{Option, none, some}
+use Rattle.std.specs.Prelude.{Option, None, Some}
 use Rattle.buffer.specs.Geometry.{block_bytes}
 use Rattle.returned.specs.Returned
 use Rattle.names.specs.Name.{name_text_of}
@@ -37,8 +37,8 @@ make_rows v d n o =
 
 -- what is asked of an object where one was found
 abbrev pub of_found : Option ℕ → (ℕ → Bool) → Bool
-of_found none f = false
-of_found (some o) f = f o
+of_found None f = false
+of_found (Some o) f = f o
 
 -- "Remove file takes only files, remove directory only empty directories." (document 02, K4): the kind that a call takes is all that the two
 -- differ in. "Refusal 9 covers the wrong choice and comes before 11."

@@ -1,7 +1,7 @@
 -- Document 01, "Calls" and "Order and dependence": the few effects that calls are made of, what each leaves of the volumes and the
 -- log, and which a call has.
 use Rattle.std.specs.Prelude.{ℕ, List, [], ◌∷◌, ◌++◌, map, cond, get_or, eqb}
-use Rattle.std.proofs.Math.Option.{Option, none, some}
+use Rattle.std.specs.Prelude.{Option, None, Some}
 use Rattle.std.proofs.Math.ListN
 use Rattle.returned.specs.Returned
 use Rattle.record.specs.Operation.{Operation, Record, operands}
@@ -33,8 +33,8 @@ pub data Effect : Type 0 where
 
 -- the operation that was found under a sequence number is sent
 abbrev pub sent_found : Option Record → Model → Model
-sent_found none x = x
-sent_found (some r) x = with_server (apply x.server r.operation) (with_log (Change.sent r.sequence x.log) x)
+sent_found None x = x
+sent_found (Some r) x = with_server (apply x.server r.operation) (with_log (Change.sent r.sequence x.log) x)
 
 unfoldable pub perform : Effect → Model → Model
 perform (note p ops) x = with_log (Change.note p ops x.log) x

@@ -1,6 +1,6 @@
 -- Document 01, "Calls": the operations that a change or forder issues, completed from what it is told.
 use Rattle.std.specs.Prelude.{ℕ, ◌-◌, List, [], ◌∷◌, ◌++◌, cond, length, eqb}
-use Rattle.std.proofs.Math.Option.{Option, none, some}
+use Rattle.std.specs.Prelude.{Option, None, Some}
 use Rattle.std.proofs.Math.ListN
 use Rattle.record.specs.Operation.{Operation}
 use Rattle.record.specs.Fields.{objects_of}
@@ -12,13 +12,13 @@ use Rattle.session.specs.Call.{Call, question, change, link, recovery}
 
 -- the object that a rename displaces: what its second name leads to, unless that is the object itself
 abbrev pub displaced : ℕ → Option ℕ → Option ℕ
-displaced o none = none
-displaced o (some i) = cond (eqb i o) none (some i)
+displaced o None = None
+displaced o (Some i) = cond (eqb i o) None (Some i)
 
 -- the operation on the object that was found; none where nothing was, which no accepted call meets
 abbrev pub on_found : Option ℕ → (ℕ → Operation) → List Operation
-on_found none f = []
-on_found (some o) f = f o ∷ []
+on_found None f = []
+on_found (Some o) f = f o ∷ []
 
 -- the operation that writes some bytes; none where there are none
 abbrev pub on_bytes : List ℕ → (List ℕ → Operation) → List Operation

@@ -1,8 +1,8 @@
 -- What a call works on: the two volumes and the log that the buffers store; and the conditions that most calls ask.
-use Rattle.std.specs.Prelude.{ℕ, ◌+◌, List, [], ◌∷◌, Bool, true, false, not, cond, length, ltb, eqb}
+use Rattle.std.specs.Prelude.{ℕ, ◌+◌, List, [], ◌∷◌, Bool, true, false, not, cond, length, ltb, eqb, Result, Ok, Err}
 use Rattle.returned.specs.Returned
-use Rattle.names.specs.declared.NameText.{NameText}
-use Rattle.names.specs.declared.NameText.TheVariants.{Fine, Bad, Long}
+use Rattle.names.specs.declared.NameError.{NameError}
+use Rattle.names.specs.declared.NameError.TheVariants.{Bad, Long}
 use Rattle.volume_entry.specs.Entry.{is_used}
 use Rattle.volume_tree.specs.Volume.{Volume, entry_at}
 use Rattle.log_rules.specs.Programs.{holds}
@@ -55,15 +55,15 @@ abbrev pub program_rows : Log → ℕ → List Row
 program_rows l p = bad_program p ∷ is_marked l p ∷ []
 
 -- "name or path text, other than length over 60"; "over 60 bytes"
-abbrev pub is_bad : NameText → Bool
-is_bad Fine = false
-is_bad Bad = true
-is_bad Long = false
+abbrev pub is_bad : Result (Unit {0}) NameError → Bool
+is_bad (Ok x) = false
+is_bad (Err Bad) = true
+is_bad (Err Long) = false
 
-abbrev pub is_long : NameText → Bool
-is_long Fine = false
-is_long Bad = false
-is_long Long = true
+abbrev pub is_long : Result (Unit {0}) NameError → Bool
+is_long (Ok x) = false
+is_long (Err Bad) = false
+is_long (Err Long) = true
 
 -- "object n or more"; "entry free"
 abbrev pub outside : Volume → ℕ → Bool

@@ -1,6 +1,6 @@
 -- Document 01, "Calls": what push, fsync, cut, take and renew answer.
 use Rattle.std.specs.Prelude.{ℕ, List, [], ◌∷◌, ◌++◌, Bool, true, false, not, cond, length, leb, ltb}
-use Rattle.std.proofs.Math.Option.{Option, none, some}
+use Rattle.std.specs.Prelude.{Option, None, Some}
 use Rattle.std.proofs.Math.ListN
 use Rattle.log_rules.specs.Stored.{record_bytes}
 use Rattle.returned.specs.Returned
@@ -19,8 +19,8 @@ use Rattle.session.specs.Model.{Model, unless, bad_program, program_rows, object
 
 -- what is asked of a record where one was found; where none was, given
 abbrev pub of_record : Bool → Option Record → (Record → Bool) → Bool
-of_record b none f = b
-of_record b (some r) f = f r
+of_record b None f = b
+of_record b (Some r) f = f r
 
 -- "15 Not first: a predecessor waits", "16 None: sequence not waiting", and "the second sense of 2 comes last"
 unfoldable pub push_of : ℕ → Model → Answer
@@ -50,8 +50,8 @@ fsync_of p o k x =
 
 -- the bytes of a loss
 abbrev pub loss_bytes : Option Record → List ℕ
-loss_bytes none = []
-loss_bytes (some r) = encode r
+loss_bytes None = []
+loss_bytes (Some r) = encode r
 
 -- a program has no loss to take
 abbrev pub no_loss : ℕ → Model → Bool

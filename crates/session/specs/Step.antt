@@ -1,6 +1,6 @@
 -- What each entry does, on all inputs: format, mount, and every call over the three buffers.
 use Rattle.std.specs.Prelude.{ℕ, ◌≡◌, List, [], true, ◌&&◌, cond}
-use Rattle.std.proofs.Math.Option.{Option, none, some}
+use Rattle.std.specs.Prelude.{Option, None, Some}
 use Rattle.buffer.specs.Decoded.{is_some}
 use Rattle.returned.specs.Returned
 use Rattle.volume_tree.specs.Volume.{Volume, formatted}
@@ -54,14 +54,14 @@ encode_model g x =
 
 -- a model whose parts agree
 abbrev pub if_agreeing : Model → Option Model
-if_agreeing x = cond (agreeing x) (some x) none
+if_agreeing x = cond (agreeing x) (Some x) None
 
 -- the model that the three buffers store: each of the three has its own form, and together they agree
 abbrev pub join_model : Option Volume → Option Volume → Option Log → Option Model
-join_model none v l = none
-join_model (some s) none l = none
-join_model (some s) (some v) none = none
-join_model (some s) (some v) (some l) = if_agreeing (record { server = s; view = v; log = l })
+join_model None v l = None
+join_model (Some s) None l = None
+join_model (Some s) (Some v) None = None
+join_model (Some s) (Some v) (Some l) = if_agreeing (record { server = s; view = v; log = l })
 
 unfoldable pub decode_model : Geometry → Buffers → Option Model
 decode_model g s =
@@ -72,11 +72,11 @@ decode_model g s =
 pub record Stores (g : Geometry) (s : Buffers) (x : Model) : Type 0 where
   pub range : in_range g ≡ true
   pub lengths : lengths_fit g s ≡ true
-  pub read : decode_model g s ≡ some x
+  pub read : decode_model g s ≡ Some x
 
 abbrev pub on_model : Geometry → Call → Buffers → Option Model → Result
-on_model g c s none = turned_down Returned.damaged c s
-on_model g c s (some x) = record { gives = answer_of g c x; leaves = encode_model g (leaves_of g c x) }
+on_model g c s None = turned_down Returned.damaged c s
+on_model g c s (Some x) = record { gives = answer_of g c x; leaves = encode_model g (leaves_of g c x) }
 
 -- "1 Wrong buffer", then "2 Damaged: stored form broken", then the call: "Every other entry is lent all three and checks their form."
 unfoldable pub step : Geometry → Call → Buffers → Result

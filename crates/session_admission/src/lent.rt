@@ -5,9 +5,10 @@ ghost use Rattle.log_rules.specs.Stored.{formed_log};
 ghost use Rattle.session.specs.Call.{geometry, buffers, in_range, lengths_fit};
 ghost use Rattle.session.specs.Model.{agreeing};
 ghost use Rattle.session_admission.specs.Code.Admitted.{admission, model_in};
+ghost use Rattle.returned.specs.Refusal.{number_of};
 
 use log_form::log_formed;
-use returned::{ACCEPTED, DAMAGED, WRONG_BUFFER};
+use returned::Refusal;
 use volume_form::well_formed;
 use volume_tree::entries::is_lent;
 
@@ -46,15 +47,22 @@ fn all_formed(n: usize, b: usize, m: usize, server: &[u8], view: &[u8], log: &[u
     false
 }
 
-// The number by which a call is refused for what it is lent; 0 where it is not.
-pub fn admit(n: usize, b: usize, m: usize, server: &[u8], view: &[u8], log: &[u8]) -> usize
-    ensures { result ≡ admission (geometry n b m) (buffers server.now view.now log.now) }
+// The number by which a call is refused for what it is lent.
+pub fn admit(
+    n: usize,
+    b: usize,
+    m: usize,
+    server: &[u8],
+    view: &[u8],
+    log: &[u8],
+) -> Result<(), Refusal>
+    ensures { number_of result ≡ admission (geometry n b m) (buffers server.now view.now log.now) }
 {
     if lengths_fit(n, b, m, server, view, log) {
         if all_formed(n, b, m, server, view, log) {
-            return ACCEPTED;
+            return Ok(());
         }
-        return DAMAGED;
+        return Err(Refusal::Damaged);
     }
-    WRONG_BUFFER
+    Err(Refusal::WrongBuffer)
 }

@@ -7,9 +7,10 @@ ghost use Rattle.session.specs.Model.{object_rows};
 ghost use Rattle.session.specs.Edit.{file_rows};
 ghost use Rattle.session.specs.Code.Table.{first_number};
 ghost use Rattle.session_admission.specs.Code.Objects.{named_number, directory_rows};
+ghost use Rattle.returned.specs.Refusal.{number_of};
 
-use returned::{ACCEPTED, BAD_NUMBER, NO_OBJECT, WRONG_KIND};
-use volume_questions::object::{Object, object_at};
+use returned::Refusal;
+use volume_questions::object::{ObjectError, ObjectKind, object_at};
 
 // 7 and 8; else the number that is given for a file and for a directory.
 fn named_refusal(
@@ -17,40 +18,40 @@ fn named_refusal(
     n: usize,
     b: usize,
     object: usize,
-    file: usize,
-    directory: usize,
-) -> usize
+    file: Result<(), Refusal>,
+    directory: Result<(), Refusal>,
+) -> Result<(), Refusal>
     requires { Lent n b view.now }
-    ensures { result ≡ named_number file directory (object_answer (read_volume n b view.now) object) }
+    ensures { number_of result ≡ named_number (number_of file) (number_of directory) (object_answer (read_volume n b view.now) object) }
 {
     match object_at(view, n, b, object) {
-        Object::BadNumber => BAD_NUMBER,
-        Object::Free => NO_OBJECT,
-        Object::File => file,
-        Object::Directory => directory,
+        Err(ObjectError::BadNumber) => Err(Refusal::BadNumber),
+        Err(ObjectError::NoObject) => Err(Refusal::NoObject),
+        Ok(ObjectKind::File) => file,
+        Ok(ObjectKind::Directory) => directory,
     }
 }
 
-// The refusal of an object of either kind; 0 where there is none.
-pub fn object_refusal(view: &[u8], n: usize, b: usize, object: usize) -> usize
+// The refusal of an object of either kind; none is `Ok`.
+pub fn object_refusal(view: &[u8], n: usize, b: usize, object: usize) -> Result<(), Refusal>
     requires { Lent n b view.now }
-    ensures { result ≡ first_number (object_rows (read_volume n b view.now) object) }
+    ensures { number_of result ≡ first_number (object_rows (read_volume n b view.now) object) }
 {
-    named_refusal(view, n, b, object, ACCEPTED, ACCEPTED)
+    named_refusal(view, n, b, object, Ok(()), Ok(()))
 }
 
 // The refusal where a file is asked for.
-pub fn file_refusal(view: &[u8], n: usize, b: usize, object: usize) -> usize
+pub fn file_refusal(view: &[u8], n: usize, b: usize, object: usize) -> Result<(), Refusal>
     requires { Lent n b view.now }
-    ensures { result ≡ first_number (file_rows (read_volume n b view.now) object []) }
+    ensures { number_of result ≡ first_number (file_rows (read_volume n b view.now) object []) }
 {
-    named_refusal(view, n, b, object, ACCEPTED, WRONG_KIND)
+    named_refusal(view, n, b, object, Ok(()), Err(Refusal::WrongKind))
 }
 
 // The refusal where a directory is asked for.
-pub fn directory_refusal(view: &[u8], n: usize, b: usize, object: usize) -> usize
+pub fn directory_refusal(view: &[u8], n: usize, b: usize, object: usize) -> Result<(), Refusal>
     requires { Lent n b view.now }
-    ensures { result ≡ first_number (directory_rows (read_volume n b view.now) object) }
+    ensures { number_of result ≡ first_number (directory_rows (read_volume n b view.now) object) }
 {
-    named_refusal(view, n, b, object, WRONG_KIND, ACCEPTED)
+    named_refusal(view, n, b, object, Err(Refusal::WrongKind), Ok(()))
 }

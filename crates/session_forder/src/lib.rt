@@ -12,13 +12,14 @@ ghost use Rattle.session.specs.Call;
 ghost use Rattle.session.specs.Step.{given, step};
 ghost use Rattle.session.specs.Edit.{forder_rows};
 ghost use Rattle.session.specs.Code.Table.{first_number};
+ghost use Rattle.returned.specs.Refusal.{number_of, value_or0};
 
 use log_draft::Issuer;
 use log_issue::issue_forder;
 use record_valid::list::{good_list, list_below, object_of};
-use returned::{ACCEPTED, BAD_NUMBER, NO_OBJECT, Value};
+use returned::Refusal;
 use session_admission::lent::admit;
-use session_change::change_refusal;
+use session_change::accept_change;
 use volume_entry::field::is_used;
 use volume_tree::entries::entry;
 
@@ -27,10 +28,7 @@ fn is_free(view: &[u8], n: usize, b: usize, object: usize) -> bool
     requires { Lent n b view.now }
     ensures { result ≡ is_free (read_volume n b view.now) object }
 {
-    if n <= object {
-        return true;
-    }
-    !is_used(entry(view, n, b, object))
+    n <= object || !is_used(entry(view, n, b, object))
 }
 
 // Whether the entry of some object of a list is free.
@@ -38,33 +36,26 @@ fn any_free(view: &[u8], n: usize, b: usize, list: &[u8]) -> bool
     requires { Lent n b view.now }
     ensures { result ≡ any (is_free (read_volume n b view.now)) (objects_of list.now) }
 {
-    let count = list.len() / 2;
-    let mut i = 0;
-    while i < count {
+    for i in 0..list.len() / 2 {
         if is_free(view, n, b, object_of(list, i)) {
             return true;
         }
-        i += 1;
     }
     false
 }
 
-// What the list is refused for; 0 where it is not: "a length of 0, odd or over 16, or an object named twice, is a bad list".
-pub fn forder_refusal(view: &[u8], n: usize, b: usize, list: &[u8]) -> usize
+// What the list is refused for: "a length of 0, odd or over 16, or an object named twice, is a bad list".
+pub fn forder_refusal(view: &[u8], n: usize, b: usize, list: &[u8]) -> Result<(), Refusal>
     requires { Lent n b view.now }
-    ensures { result ≡ first_number (forder_rows (read_volume n b view.now) list.now) }
+    ensures { number_of result ≡ first_number (forder_rows (read_volume n b view.now) list.now) }
 {
-    if list.len() % 2 == 0 {
-        if good_list(list) {
-            if list_below(list, n) {
-                if any_free(view, n, b, list) {
-                    return NO_OBJECT;
-                }
-                return ACCEPTED;
-            }
-        }
+    if list.len() % 2 != 0 || !good_list(list) || !list_below(list, n) {
+        return Err(Refusal::BadNumber);
     }
-    BAD_NUMBER
+    if any_free(view, n, b, list) {
+        return Err(Refusal::NoObject);
+    }
+    Ok(())
 }
 
 // The view is only read: "forder's change to the view is none".
@@ -77,20 +68,18 @@ pub fn forder(
     log: &mut [u8],
     program: usize,
     list: &[u8],
-) -> Value
-    ensures { given result.returned (result.value ∷ []) [] (buffers server.now view.now log.new)
+) -> Result<usize, Refusal>
+    ensures { given (number_of result) (value_or0 result ∷ []) [] (buffers server.now view.now log.new)
         ≡ step (geometry n b m) (Call.forder (issuer program) list.now) (buffers server.now view.now log.old) }
 {
-    let wrong = admit(n, b, m, server, view, log);
-    if wrong != ACCEPTED {
-        return Value::refused(wrong);
+    if let Err(refusal) = admit(n, b, m, server, view, log) {
+        return Err(refusal);
     }
     let own = forder_refusal(view, n, b, list);
-    let refused = change_refusal(log, n, b, m, program, own, 1);
-    if refused != ACCEPTED {
-        return Value::refused(refused);
+    if let Err(refusal) = accept_change(log, n, b, m, program, own, 1) {
+        return Err(refusal);
     }
     let by = Issuer { program };
     let number = issue_forder(log, n, b, m, by, list);
-    Value::of(ACCEPTED, number)
+    Ok(number)
 }

@@ -27,7 +27,7 @@ needs-session_fsync W h n0 n1 n2 n3 n4 n5 = (h, n0, n1, n2, n3, n4, n5, tt)
 
 below : (W : World) → Needs-session_fsync W → link.Below W
 unfolding Needs-session_fsync
-below W n = (b0.linked-sync_object W n.1, (b1.linked-Value-of W n.2, (b1.linked-Value-refused W n.2, (b2.linked-lent-admit W n.3, (b2.linked-object-object_refusal W n.3, (b2.linked-program-program_refusal W n.3, (b3.linked-format-copy_volume W n.4, tt)))))))
+below W n = (b0.linked-sync_object W n.1, (b1.linked-Refusal-number W n.2, (b1.linked-Value-of W n.2, (b2.linked-lent-admit W n.3, (b2.linked-object-object_refusal W n.3, (b2.linked-program-program_refusal W n.3, (b3.linked-format-copy_volume W n.4, tt)))))))
 
 pub linked-fsync : (W : World) → Needs-session_fsync W → HasT (in_world W) true s-fsync.code
 unfolding Needs-session_fsync table-session_fsync

@@ -4,14 +4,14 @@ use prog.Linked.{Tree, World, Holds, in_world}
 use prog.LinkedThreads.{HasT}
 use Rattle.session_length.proofs.TheLink as link
 use Rattle.log_issue.proofs.Linked as b0
-use Rattle.returned.proofs.Linked as b1
-use Rattle.session_admission.proofs.Linked as b2
-use Rattle.session_change.proofs.Linked as b3
-use Rattle.log_draft.proofs.Linked as b4
-use Rattle.volume_tree.proofs.Linked as b5
-use Rattle.record_writer.proofs.Linked as b6
-use Rattle.record.proofs.Linked as b7
-use Rattle.buffer.proofs.Linked as b8
+use Rattle.session_admission.proofs.Linked as b1
+use Rattle.session_change.proofs.Linked as b2
+use Rattle.log_draft.proofs.Linked as b3
+use Rattle.volume_tree.proofs.Linked as b4
+use Rattle.record_writer.proofs.Linked as b5
+use Rattle.record.proofs.Linked as b6
+use Rattle.buffer.proofs.Linked as b7
+use Rattle.returned.proofs.Linked as b8
 use Rattle.session_length.proofs.set_length.Symbol as s-set_length
 pub use Rattle.session_change.proofs.Linked.{table-buffer, Needs-buffer, needs-buffer, table-returned, Needs-returned, needs-returned, table-names, Needs-names, needs-names, table-volume_entry, Needs-volume_entry, needs-volume_entry, table-volume_tree, Needs-volume_tree, needs-volume_tree, table-record, Needs-record, needs-record, table-log_slots, Needs-log_slots, needs-log_slots, table-record_valid, Needs-record_valid, needs-record_valid, table-record_reader, Needs-record_reader, needs-record_reader, table-log_form, Needs-log_form, needs-log_form, table-volume_questions, Needs-volume_questions, needs-volume_questions, table-volume_unique, Needs-volume_unique, needs-volume_unique, table-volume_entry_form, Needs-volume_entry_form, needs-volume_entry_form, table-volume_form, Needs-volume_form, needs-volume_form, table-session_admission, Needs-session_admission, needs-session_admission, table-log_operands, Needs-log_operands, needs-log_operands, table-log_touch, Needs-log_touch, needs-log_touch, table-log_dependence, Needs-log_dependence, needs-log_dependence, table-volume_applies, Needs-volume_applies, needs-volume_applies, table-volume_write, Needs-volume_write, needs-volume_write, table-volume, Needs-volume, needs-volume, table-log_draft, Needs-log_draft, needs-log_draft, table-session_change, Needs-session_change, needs-session_change}
 pub use Rattle.log_issue.proofs.Linked.{table-record_writer, Needs-record_writer, needs-record_writer, table-log_issue, Needs-log_issue, needs-log_issue}
@@ -22,15 +22,15 @@ table-session_length = link.table
 
 -- a world that has it, and those of the crates below
 pub Needs-session_length : World → Type 0
-Needs-session_length W = Holds W "session_length" table-session_length × b0.Needs-log_issue W × b1.Needs-returned W × b2.Needs-session_admission W × b3.Needs-session_change W × b4.Needs-log_draft W × b5.Needs-volume_tree W × b6.Needs-record_writer W × b7.Needs-record W × b8.Needs-buffer W × Unit {0}
+Needs-session_length W = Holds W "session_length" table-session_length × b0.Needs-log_issue W × b1.Needs-session_admission W × b2.Needs-session_change W × b3.Needs-log_draft W × b4.Needs-volume_tree W × b5.Needs-record_writer W × b6.Needs-record W × b7.Needs-buffer W × b8.Needs-returned W × Unit {0}
 
-pub needs-session_length : (W : World) → Holds W "session_length" table-session_length → b0.Needs-log_issue W → b1.Needs-returned W → b2.Needs-session_admission W → b3.Needs-session_change W → b4.Needs-log_draft W → b5.Needs-volume_tree W → b6.Needs-record_writer W → b7.Needs-record W → b8.Needs-buffer W → Needs-session_length W
+pub needs-session_length : (W : World) → Holds W "session_length" table-session_length → b0.Needs-log_issue W → b1.Needs-session_admission W → b2.Needs-session_change W → b3.Needs-log_draft W → b4.Needs-volume_tree W → b5.Needs-record_writer W → b6.Needs-record W → b7.Needs-buffer W → b8.Needs-returned W → Needs-session_length W
 unfolding Needs-session_length
 needs-session_length W h n0 n1 n2 n3 n4 n5 n6 n7 n8 = (h, n0, n1, n2, n3, n4, n5, n6, n7, n8, tt)
 
 below : (W : World) → Needs-session_length W → link.Below W
 unfolding Needs-session_length
-below W n = (b0.linked-issue_length W n.1, (b1.linked-Value-of W n.2, (b1.linked-Value-refused W n.2, (b2.linked-lent-admit W n.3, (b2.linked-object-file_refusal W n.3, (b3.linked-change_refusal W n.4, tt))))))
+below W n = (b0.linked-issue_length W n.1, (b1.linked-lent-admit W n.2, (b1.linked-object-file_refusal W n.2, (b2.linked-accept_change W n.3, tt))))
 
 pub linked-set_length : (W : World) → Needs-session_length W → HasT (in_world W) true s-set_length.code
 unfolding Needs-session_length table-session_length

@@ -9,28 +9,34 @@ ghost use Rattle.session.specs.Call;
 ghost use Rattle.session.specs.Step.{given, step};
 ghost use Rattle.session.specs.Edit.{length_rows};
 ghost use Rattle.session.specs.Code.Table.{first_number};
+ghost use Rattle.returned.specs.Refusal.{number_of, value_or0};
 
 use buffer::BLOCK;
 use log_draft::Issuer;
 use log_issue::issue_length;
-use returned::{ACCEPTED, BAD_RANGE, Value};
+use returned::Refusal;
 use session_admission::lent::admit;
 use session_admission::object::file_refusal;
-use session_change::change_refusal;
+use session_change::accept_change;
 
-// What the object and the length are refused for; 0 where they are not. "length over b × 1,024".
-pub fn length_refusal(view: &[u8], n: usize, b: usize, object: usize, length: usize) -> usize
+// What the object and the length are refused for. "length over b × 1,024".
+pub fn length_refusal(
+    view: &[u8],
+    n: usize,
+    b: usize,
+    object: usize,
+    length: usize,
+) -> Result<(), Refusal>
     requires { Lent n b view.now }
-    ensures { result ≡ first_number (length_rows b (read_volume n b view.now) object length) }
+    ensures { number_of result ≡ first_number (length_rows b (read_volume n b view.now) object length) }
 {
-    let refused = file_refusal(view, n, b, object);
-    if refused != ACCEPTED {
-        return refused;
+    if let Err(refusal) = file_refusal(view, n, b, object) {
+        return Err(refusal);
     }
     if BLOCK * b < length {
-        return BAD_RANGE;
+        return Err(Refusal::BadRange);
     }
-    ACCEPTED
+    Ok(())
 }
 
 pub fn set_length(
@@ -43,20 +49,18 @@ pub fn set_length(
     program: usize,
     object: usize,
     length: usize,
-) -> Value
-    ensures { given result.returned (result.value ∷ []) [] (buffers server.now view.new log.new)
+) -> Result<usize, Refusal>
+    ensures { given (number_of result) (value_or0 result ∷ []) [] (buffers server.now view.new log.new)
         ≡ step (geometry n b m) (Call.set_length (issuer program) object length) (buffers server.now view.old log.old) }
 {
-    let wrong = admit(n, b, m, server, view, log);
-    if wrong != ACCEPTED {
-        return Value::refused(wrong);
+    if let Err(refusal) = admit(n, b, m, server, view, log) {
+        return Err(refusal);
     }
     let own = length_refusal(view, n, b, object, length);
-    let refused = change_refusal(log, n, b, m, program, own, 1);
-    if refused != ACCEPTED {
-        return Value::refused(refused);
+    if let Err(refusal) = accept_change(log, n, b, m, program, own, 1) {
+        return Err(refusal);
     }
     let by = Issuer { program };
     let number = issue_length(log, view, n, b, m, by, object, length);
-    Value::of(ACCEPTED, number)
+    Ok(number)
 }

@@ -4,15 +4,15 @@ use prog.Linked.{Tree, World, Holds, in_world}
 use prog.LinkedThreads.{HasT}
 use Rattle.session_make.proofs.TheLink as link
 use Rattle.log_issue.proofs.Linked as b0
-use Rattle.returned.proofs.Linked as b1
-use Rattle.session_admission.proofs.Linked as b2
-use Rattle.session_change.proofs.Linked as b3
-use Rattle.session_names.proofs.Linked as b4
-use Rattle.volume_entry.proofs.Linked as b5
-use Rattle.volume_tree.proofs.Linked as b6
-use Rattle.log_draft.proofs.Linked as b7
-use Rattle.record_writer.proofs.Linked as b8
-use Rattle.record.proofs.Linked as b9
+use Rattle.session_admission.proofs.Linked as b1
+use Rattle.session_change.proofs.Linked as b2
+use Rattle.session_names.proofs.Linked as b3
+use Rattle.volume_entry.proofs.Linked as b4
+use Rattle.volume_tree.proofs.Linked as b5
+use Rattle.log_draft.proofs.Linked as b6
+use Rattle.record_writer.proofs.Linked as b7
+use Rattle.record.proofs.Linked as b8
+use Rattle.returned.proofs.Linked as b9
 use Rattle.session_make.proofs.create.Symbol as s-create
 use Rattle.session_make.proofs.make_directory.Symbol as s-make_directory
 pub use Rattle.session_names.proofs.Linked.{table-buffer, Needs-buffer, needs-buffer, table-returned, Needs-returned, needs-returned, table-names, Needs-names, needs-names, table-volume_entry, Needs-volume_entry, needs-volume_entry, table-volume_tree, Needs-volume_tree, needs-volume_tree, table-record, Needs-record, needs-record, table-log_slots, Needs-log_slots, needs-log_slots, table-record_valid, Needs-record_valid, needs-record_valid, table-record_reader, Needs-record_reader, needs-record_reader, table-log_form, Needs-log_form, needs-log_form, table-volume_questions, Needs-volume_questions, needs-volume_questions, table-volume_unique, Needs-volume_unique, needs-volume_unique, table-volume_entry_form, Needs-volume_entry_form, needs-volume_entry_form, table-volume_form, Needs-volume_form, needs-volume_form, table-session_admission, Needs-session_admission, needs-session_admission, table-session_names, Needs-session_names, needs-session_names}
@@ -25,15 +25,15 @@ table-session_make = link.table
 
 -- a world that has it, and those of the crates below
 pub Needs-session_make : World → Type 0
-Needs-session_make W = Holds W "session_make" table-session_make × b0.Needs-log_issue W × b1.Needs-returned W × b2.Needs-session_admission W × b3.Needs-session_change W × b4.Needs-session_names W × b5.Needs-volume_entry W × b6.Needs-volume_tree W × b7.Needs-log_draft W × b8.Needs-record_writer W × b9.Needs-record W × Unit {0}
+Needs-session_make W = Holds W "session_make" table-session_make × b0.Needs-log_issue W × b1.Needs-session_admission W × b2.Needs-session_change W × b3.Needs-session_names W × b4.Needs-volume_entry W × b5.Needs-volume_tree W × b6.Needs-log_draft W × b7.Needs-record_writer W × b8.Needs-record W × b9.Needs-returned W × Unit {0}
 
-pub needs-session_make : (W : World) → Holds W "session_make" table-session_make → b0.Needs-log_issue W → b1.Needs-returned W → b2.Needs-session_admission W → b3.Needs-session_change W → b4.Needs-session_names W → b5.Needs-volume_entry W → b6.Needs-volume_tree W → b7.Needs-log_draft W → b8.Needs-record_writer W → b9.Needs-record W → Needs-session_make W
+pub needs-session_make : (W : World) → Holds W "session_make" table-session_make → b0.Needs-log_issue W → b1.Needs-session_admission W → b2.Needs-session_change W → b3.Needs-session_names W → b4.Needs-volume_entry W → b5.Needs-volume_tree W → b6.Needs-log_draft W → b7.Needs-record_writer W → b8.Needs-record W → b9.Needs-returned W → Needs-session_make W
 unfolding Needs-session_make
 needs-session_make W h n0 n1 n2 n3 n4 n5 n6 n7 n8 n9 = (h, n0, n1, n2, n3, n4, n5, n6, n7, n8, n9, tt)
 
 below : (W : World) → Needs-session_make W → link.Below W
 unfolding Needs-session_make
-below W n = (b0.linked-issue_entry W n.1, (b1.linked-Value-of W n.2, (b1.linked-Value-refused W n.2, (b2.linked-lent-admit W n.3, (b2.linked-object-directory_refusal W n.3, (b3.linked-change_refusal W n.4, (b4.linked-text-text_refusal W n.5, (b5.linked-field-is_used W n.6, (b6.linked-entries-entry W n.7, (b6.linked-search-search W n.7, tt))))))))))
+below W n = (b0.linked-issue_entry W n.1, (b1.linked-lent-admit W n.2, (b1.linked-object-directory_refusal W n.2, (b2.linked-accept_change W n.3, (b3.linked-text-text_refusal W n.4, (b4.linked-field-is_used W n.5, (b5.linked-entries-entry W n.6, (b5.linked-search-search W n.6, tt))))))))
 
 pub linked-create : (W : World) → Needs-session_make W → HasT (in_world W) true s-create.code
 unfolding Needs-session_make table-session_make

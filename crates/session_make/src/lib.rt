@@ -10,44 +10,50 @@ ghost use Rattle.session.specs.Edit.{make_rows};
 ghost use Rattle.session.specs.Step.{given, step};
 ghost use Rattle.session.specs.Code.Table.{first_number};
 ghost use Rattle.session_make.specs.Code.Make.{make_call, make_kind};
+ghost use Rattle.returned.specs.Refusal.{number_of, value_or0};
 
 use log_draft::Issuer;
 use log_issue::issue_entry;
 use record::kind::Kind;
-use returned::{ACCEPTED, BAD_NUMBER, TAKEN, Value};
+use returned::Refusal;
 use session_admission::lent::admit;
 use session_admission::object::directory_refusal;
-use session_change::change_refusal;
+use session_change::accept_change;
 use session_names::text::text_refusal;
 use volume_entry::field::is_used;
 use volume_tree::entries::entry;
-use volume_tree::search::{Found, search};
+use volume_tree::search::search;
 
-// The refusal of a name and an object number for a new entry; 0 where there is none.
-fn make_refusal(view: &[u8], n: usize, b: usize, parent: usize, name: &[u8], object: usize) -> usize
+// The refusal of a name and an object number for a new entry.
+fn make_refusal(
+    view: &[u8],
+    n: usize,
+    b: usize,
+    parent: usize,
+    name: &[u8],
+    object: usize,
+) -> Result<(), Refusal>
     requires { Lent n b view.now }
-    ensures { result ≡ first_number (make_rows (read_volume n b view.now) parent name.now object) }
+    ensures { number_of result ≡ first_number (make_rows (read_volume n b view.now) parent name.now object) }
 {
-    let text = text_refusal(name);
-    if text != ACCEPTED {
-        return text;
+    if let Err(refusal) = text_refusal(name) {
+        return Err(refusal);
     }
     if n <= object {
-        return BAD_NUMBER;
+        return Err(Refusal::BadNumber);
     }
     if object == 0 {
-        return BAD_NUMBER;
+        return Err(Refusal::BadNumber);
     }
-    let place = directory_refusal(view, n, b, parent);
-    if place != ACCEPTED {
-        return place;
+    if let Err(refusal) = directory_refusal(view, n, b, parent) {
+        return Err(refusal);
     }
     if is_used(entry(view, n, b, object)) {
-        return TAKEN;
+        return Err(Refusal::Taken);
     }
     match search(view, n, b, parent, name) {
-        Found::At(_) => TAKEN,
-        Found::Nothing => ACCEPTED,
+        Some(_) => Err(Refusal::Taken),
+        None => Ok(()),
     }
 }
 
@@ -74,23 +80,21 @@ fn make(
     parent: usize,
     name: &[u8],
     object: usize,
-) -> Value
-    ensures { given result.returned (result.value ∷ []) [] (buffers server.now view.new log.new)
+) -> Result<usize, Refusal>
+    ensures { given (number_of result) (value_or0 result ∷ []) [] (buffers server.now view.new log.new)
         ≡ step (geometry n b m) (make_call directory (issuer program) parent name.now object) (buffers server.now view.old log.old) }
 {
-    let wrong = admit(n, b, m, server, view, log);
-    if wrong != ACCEPTED {
-        return Value::refused(wrong);
+    if let Err(refusal) = admit(n, b, m, server, view, log) {
+        return Err(refusal);
     }
     let own = make_refusal(view, n, b, parent, name, object);
-    let refused = change_refusal(log, n, b, m, program, own, 1);
-    if refused != ACCEPTED {
-        return Value::refused(refused);
+    if let Err(refusal) = accept_change(log, n, b, m, program, own, 1) {
+        return Err(refusal);
     }
     let kind = kind_of(directory);
     let by = Issuer { program };
     let next = issue_entry(log, view, n, b, m, kind, by, object, parent, name);
-    Value::of(ACCEPTED, next)
+    Ok(next)
 }
 
 // Creates a file.
@@ -105,8 +109,8 @@ pub fn create(
     parent: usize,
     name: &[u8],
     object: usize,
-) -> Value
-    ensures { given result.returned (result.value ∷ []) [] (buffers server.now view.new log.new)
+) -> Result<usize, Refusal>
+    ensures { given (number_of result) (value_or0 result ∷ []) [] (buffers server.now view.new log.new)
         ≡ step (geometry n b m) (Call.create_file (issuer program) parent name.now object) (buffers server.now view.old log.old) }
 {
     make(
@@ -126,8 +130,8 @@ pub fn make_directory(
     parent: usize,
     name: &[u8],
     object: usize,
-) -> Value
-    ensures { given result.returned (result.value ∷ []) [] (buffers server.now view.new log.new)
+) -> Result<usize, Refusal>
+    ensures { given (number_of result) (value_or0 result ∷ []) [] (buffers server.now view.new log.new)
         ≡ step (geometry n b m) (Call.make_directory (issuer program) parent name.now object) (buffers server.now view.old log.old) }
 {
     make(

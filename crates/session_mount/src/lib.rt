@@ -7,10 +7,11 @@ ghost use Rattle.log_rules.specs.Slot.{empty_log};
 ghost use Rattle.log_rules.specs.Stored.{log_bytes, encode_log};
 ghost use Rattle.session.specs.Call.{geometry, buffers, in_range, server_fits};
 ghost use Rattle.session.specs.Step.{given, format, format_leaves, mount};
+ghost use Rattle.returned.specs.Refusal.{number_of};
 
 use buffer::zero::clear;
 use log_slots::NEXT_AT;
-use returned::{ACCEPTED, Code, DAMAGED, WRONG_BUFFER};
+use returned::Refusal;
 use session_admission::lent::lengths_fit;
 use volume_form::well_formed;
 use volume_tree::entries::is_lent;
@@ -38,29 +39,36 @@ fn begin_log(log: &mut [u8], m: usize)
 }
 
 // Format: "1 Wrong buffer", or a volume with only a root, whatever the bytes were.
-pub fn format(n: usize, b: usize, m: usize, server: &mut [u8]) -> Code
-    ensures returned { result.returned ≡ format (geometry n b m) server.old }
+pub fn format(n: usize, b: usize, m: usize, server: &mut [u8]) -> Result<(), Refusal>
+    ensures returned { number_of result ≡ format (geometry n b m) server.old }
     ensures volume { server.new ≡ format_leaves (geometry n b m) server.old }
 {
     if volume_fits(n, b, m, server) {
         format_volume(server, n, b);
-        return Code::of(ACCEPTED);
+        return Ok(());
     }
-    Code::of(WRONG_BUFFER)
+    Err(Refusal::WrongBuffer)
 }
 
 // Mount: 1, 2, or the server volume copied and an empty log, whatever the view and the log were.
-pub fn mount(n: usize, b: usize, m: usize, server: &[u8], view: &mut [u8], log: &mut [u8]) -> Code
-    ensures { given result.returned [] [] (buffers server.now view.new log.new)
+pub fn mount(
+    n: usize,
+    b: usize,
+    m: usize,
+    server: &[u8],
+    view: &mut [u8],
+    log: &mut [u8],
+) -> Result<(), Refusal>
+    ensures { given (number_of result) [] [] (buffers server.now view.new log.new)
         ≡ mount (geometry n b m) (buffers server.now view.old log.old) }
 {
     if lengths_fit(n, b, m, server, view, log) {
         if well_formed(server, n, b) {
             copy_volume(view, server);
             begin_log(log, m);
-            return Code::of(ACCEPTED);
+            return Ok(());
         }
-        return Code::of(DAMAGED);
+        return Err(Refusal::Damaged);
     }
-    Code::of(WRONG_BUFFER)
+    Err(Refusal::WrongBuffer)
 }

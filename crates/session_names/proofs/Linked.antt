@@ -27,7 +27,7 @@ needs-session_names W h n0 n1 n2 n3 n4 = (h, n0, n1, n2, n3, n4, tt)
 
 below : (W : World) → Needs-session_names W → link.Below W
 unfolding Needs-session_names
-below W n = (b0.linked-name_text W n.1, (b1.linked-rank W n.2, (b2.linked-object-directory_refusal W n.3, (b3.linked-search-search W n.4, tt))))
+below W n = (b0.linked-RefusalFromNameError-from W n.1, (b0.linked-name_text W n.1, (b1.linked-Refusal-rank W n.2, (b2.linked-object-directory_refusal W n.3, (b3.linked-search-search W n.4, tt)))))
 
 pub linked-place-seek : (W : World) → Needs-session_names W → HasT (in_world W) true s-place-seek.code
 unfolding Needs-session_names table-session_names

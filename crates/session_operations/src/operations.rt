@@ -19,10 +19,8 @@ pub fn operations(len: usize, offset: usize, data: &[u8]) -> usize
     if data.len() == 0 {
         return 0;
     }
-    if offset < len {
-        if len - offset < data.len() {
-            return 2;
-        }
+    if offset < len && len - offset < data.len() {
+        return 2;
     }
     1
 }

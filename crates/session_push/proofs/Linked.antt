@@ -7,10 +7,10 @@ use Rattle.log_find.proofs.Linked as b0
 use Rattle.log_order.proofs.Linked as b1
 use Rattle.log_push.proofs.Linked as b2
 use Rattle.log_slots.proofs.Linked as b3
-use Rattle.returned.proofs.Linked as b4
-use Rattle.session_admission.proofs.Linked as b5
-use Rattle.volume_tree.proofs.Linked as b6
-use Rattle.record.proofs.Linked as b7
+use Rattle.session_admission.proofs.Linked as b4
+use Rattle.volume_tree.proofs.Linked as b5
+use Rattle.record.proofs.Linked as b6
+use Rattle.returned.proofs.Linked as b7
 use Rattle.session_push.proofs.push.Symbol as s-push
 pub use Rattle.session_admission.proofs.Linked.{table-buffer, Needs-buffer, needs-buffer, table-returned, Needs-returned, needs-returned, table-names, Needs-names, needs-names, table-volume_entry, Needs-volume_entry, needs-volume_entry, table-volume_tree, Needs-volume_tree, needs-volume_tree, table-record, Needs-record, needs-record, table-log_slots, Needs-log_slots, needs-log_slots, table-record_valid, Needs-record_valid, needs-record_valid, table-record_reader, Needs-record_reader, needs-record_reader, table-log_form, Needs-log_form, needs-log_form, table-volume_questions, Needs-volume_questions, needs-volume_questions, table-volume_unique, Needs-volume_unique, needs-volume_unique, table-volume_entry_form, Needs-volume_entry_form, needs-volume_entry_form, table-volume_form, Needs-volume_form, needs-volume_form, table-session_admission, Needs-session_admission, needs-session_admission}
 pub use Rattle.log_find.proofs.Linked.{table-log_find, Needs-log_find, needs-log_find}
@@ -23,15 +23,15 @@ table-session_push = link.table
 
 -- a world that has it, and those of the crates below
 pub Needs-session_push : World → Type 0
-Needs-session_push W = Holds W "session_push" table-session_push × b0.Needs-log_find W × b1.Needs-log_order W × b2.Needs-log_push W × b3.Needs-log_slots W × b4.Needs-returned W × b5.Needs-session_admission W × b6.Needs-volume_tree W × b7.Needs-record W × Unit {0}
+Needs-session_push W = Holds W "session_push" table-session_push × b0.Needs-log_find W × b1.Needs-log_order W × b2.Needs-log_push W × b3.Needs-log_slots W × b4.Needs-session_admission W × b5.Needs-volume_tree W × b6.Needs-record W × b7.Needs-returned W × Unit {0}
 
-pub needs-session_push : (W : World) → Holds W "session_push" table-session_push → b0.Needs-log_find W → b1.Needs-log_order W → b2.Needs-log_push W → b3.Needs-log_slots W → b4.Needs-returned W → b5.Needs-session_admission W → b6.Needs-volume_tree W → b7.Needs-record W → Needs-session_push W
+pub needs-session_push : (W : World) → Holds W "session_push" table-session_push → b0.Needs-log_find W → b1.Needs-log_order W → b2.Needs-log_push W → b3.Needs-log_slots W → b4.Needs-session_admission W → b5.Needs-volume_tree W → b6.Needs-record W → b7.Needs-returned W → Needs-session_push W
 unfolding Needs-session_push
 needs-session_push W h n0 n1 n2 n3 n4 n5 n6 n7 = (h, n0, n1, n2, n3, n4, n5, n6, n7, tt)
 
 below : (W : World) → Needs-session_push W → link.Below W
 unfolding Needs-session_push
-below W n = (b0.linked-Position-sought W n.1, (b0.linked-waiting_at W n.1, (b1.linked-is_preceded W n.2, (b2.linked-push W n.3, (b3.linked-head-used W n.4, (b4.linked-Code-of W n.5, (b5.linked-lent-admit W n.6, tt)))))))
+below W n = (b0.linked-waiting_at W n.1, (b1.linked-is_preceded W n.2, (b2.linked-push W n.3, (b3.linked-head-used W n.4, (b4.linked-lent-admit W n.5, tt)))))
 
 pub linked-push : (W : World) → Needs-session_push W → HasT (in_world W) true s-push.code
 unfolding Needs-session_push table-session_push

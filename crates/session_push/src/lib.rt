@@ -10,16 +10,17 @@ ghost use Rattle.log_find.specs.Code.Found.{FoundBy};
 ghost use Rattle.session.specs.Call.{geometry, buffers};
 ghost use Rattle.session.specs.Call;
 ghost use Rattle.session.specs.Step.{given, step};
+ghost use Rattle.returned.specs.Refusal.{number_of};
 
-use log_find::{Position, waiting_at};
+use log_find::waiting_at;
 use log_order::is_preceded;
 use log_slots::head::used;
 use log_slots::{HEAD, SLOT};
-use returned::{ACCEPTED, Code, DAMAGED, NOT_FIRST};
+use returned::Refusal;
 use session_admission::lent::admit;
 
 // Where the waiting operation of a sequence number stands among the used slots of a log.
-fn waiting_in(log: &[u8], m: usize, sequence: usize) -> Position
+fn waiting_in(log: &[u8], m: usize, sequence: usize) -> Option<usize>
     requires { Logged 256 64 m log.now }
     ensures { FoundBy (is_sequence sequence) (read_log m log.now).slots result }
 {
@@ -46,25 +47,23 @@ pub fn push(
     view: &[u8],
     log: &mut [u8],
     sequence: usize,
-) -> Code
-    ensures { given result.returned [] [] (buffers server.new view.now log.new)
+) -> Result<(), Refusal>
+    ensures { given (number_of result) [] [] (buffers server.new view.now log.new)
         ≡ step (geometry n b m) (Call.push sequence) (buffers server.old view.now log.old) }
 {
-    let wrong = admit(n, b, m, server, view, log);
-    if wrong != ACCEPTED {
-        return Code::of(wrong);
+    if let Err(refusal) = admit(n, b, m, server, view, log) {
+        return Err(refusal);
     }
-    let found = waiting_in(log, m, sequence);
-    match found {
-        Position::Nothing => Code::of(found.sought()),
-        Position::At(i) => {
+    match waiting_in(log, m, sequence) {
+        None => Err(Refusal::NotFound),
+        Some(i) => {
             if is_behind(log, m, i) {
-                return Code::of(NOT_FIRST);
+                return Err(Refusal::NotFirst);
             }
             if log_push::push(server, log, n, b, m, i) {
-                return Code::of(ACCEPTED);
+                return Ok(());
             }
-            Code::of(DAMAGED)
+            Err(Refusal::Damaged)
         }
     }
 }

@@ -6,14 +6,15 @@ ghost use Rattle.log_rules.specs.Stored.{encode_log, read_log};
 ghost use Rattle.log_rules.specs.Change.{note};
 ghost use Rattle.log_rules.specs.Code.Slots.{Logged};
 ghost use Rattle.session_questions.specs.Code.Asked.{first_refusal};
+ghost use Rattle.returned.specs.Refusal.{number_of};
 
 use log_dependence::note;
 use log_touch::set::one;
-use returned::ACCEPTED;
+use returned::Refusal;
 use session_admission::lent::admit;
 use session_admission::program::program_refusal;
 
-// The number by which a question is refused for what it is lent or for its program; 0 where it may be asked.
+// The refusal of a question for what it is lent or for its program.
 pub fn first_refusal(
     n: usize,
     b: usize,
@@ -22,12 +23,11 @@ pub fn first_refusal(
     view: &[u8],
     log: &[u8],
     program: usize,
-) -> usize
-    ensures { result ≡ first_refusal n b m program server.now view.now log.now }
+) -> Result<(), Refusal>
+    ensures { number_of result ≡ first_refusal n b m program server.now view.now log.now }
 {
-    let wrong = admit(n, b, m, server, view, log);
-    if wrong != ACCEPTED {
-        return wrong;
+    if let Err(refusal) = admit(n, b, m, server, view, log) {
+        return Err(refusal);
     }
     program_refusal(log, m, program)
 }

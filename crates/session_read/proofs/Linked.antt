@@ -3,11 +3,11 @@ use mathlib.Core.Bool.{true}
 use prog.Linked.{Tree, World, Holds, in_world}
 use prog.LinkedThreads.{HasT}
 use Rattle.session_read.proofs.TheLink as link
-use Rattle.returned.proofs.Linked as b0
-use Rattle.session_questions.proofs.Linked as b1
-use Rattle.volume_questions.proofs.Linked as b2
-use Rattle.volume_tree.proofs.Linked as b3
-use Rattle.volume_entry.proofs.Linked as b4
+use Rattle.session_questions.proofs.Linked as b0
+use Rattle.volume_questions.proofs.Linked as b1
+use Rattle.volume_tree.proofs.Linked as b2
+use Rattle.volume_entry.proofs.Linked as b3
+use Rattle.returned.proofs.Linked as b4
 use Rattle.session_read.proofs.read.Symbol as s-read
 pub use Rattle.session_questions.proofs.Linked.{table-buffer, Needs-buffer, needs-buffer, table-returned, Needs-returned, needs-returned, table-names, Needs-names, needs-names, table-volume_entry, Needs-volume_entry, needs-volume_entry, table-volume_tree, Needs-volume_tree, needs-volume_tree, table-record, Needs-record, needs-record, table-log_slots, Needs-log_slots, needs-log_slots, table-record_valid, Needs-record_valid, needs-record_valid, table-record_reader, Needs-record_reader, needs-record_reader, table-log_form, Needs-log_form, needs-log_form, table-volume_questions, Needs-volume_questions, needs-volume_questions, table-volume_unique, Needs-volume_unique, needs-volume_unique, table-volume_entry_form, Needs-volume_entry_form, needs-volume_entry_form, table-volume_form, Needs-volume_form, needs-volume_form, table-session_admission, Needs-session_admission, needs-session_admission, table-log_operands, Needs-log_operands, needs-log_operands, table-log_touch, Needs-log_touch, needs-log_touch, table-log_dependence, Needs-log_dependence, needs-log_dependence, table-session_questions, Needs-session_questions, needs-session_questions}
 
@@ -17,15 +17,15 @@ table-session_read = link.table
 
 -- a world that has it, and those of the crates below
 pub Needs-session_read : World → Type 0
-Needs-session_read W = Holds W "session_read" table-session_read × b0.Needs-returned W × b1.Needs-session_questions W × b2.Needs-volume_questions W × b3.Needs-volume_tree W × b4.Needs-volume_entry W × Unit {0}
+Needs-session_read W = Holds W "session_read" table-session_read × b0.Needs-session_questions W × b1.Needs-volume_questions W × b2.Needs-volume_tree W × b3.Needs-volume_entry W × b4.Needs-returned W × Unit {0}
 
-pub needs-session_read : (W : World) → Holds W "session_read" table-session_read → b0.Needs-returned W → b1.Needs-session_questions W → b2.Needs-volume_questions W → b3.Needs-volume_tree W → b4.Needs-volume_entry W → Needs-session_read W
+pub needs-session_read : (W : World) → Holds W "session_read" table-session_read → b0.Needs-session_questions W → b1.Needs-volume_questions W → b2.Needs-volume_tree W → b3.Needs-volume_entry W → b4.Needs-returned W → Needs-session_read W
 unfolding Needs-session_read
 needs-session_read W h n0 n1 n2 n3 n4 = (h, n0, n1, n2, n3, n4, tt)
 
 below : (W : World) → Needs-session_read W → link.Below W
 unfolding Needs-session_read
-below W n = (b0.linked-Value-of W n.1, (b0.linked-Value-refused W n.1, (b1.linked-first_refusal W n.2, (b1.linked-note_object W n.2, (b2.linked-reading-read W n.3, tt)))))
+below W n = (b0.linked-first_refusal W n.1, (b0.linked-note_object W n.1, (b1.linked-reading-RefusalFromReadError-from W n.2, (b1.linked-reading-read W n.2, tt))))
 
 pub linked-read : (W : World) → Needs-session_read W → HasT (in_world W) true s-read.code
 unfolding Needs-session_read table-session_read

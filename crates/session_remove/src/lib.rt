@@ -13,14 +13,15 @@ ghost use Rattle.session.specs.Step.{given, step};
 ghost use Rattle.session.specs.Code.Table.{first_number};
 ghost use Rattle.session_names.specs.Code.Rows.{Finds};
 ghost use Rattle.session_remove.specs.Code.Remove.{remove_call, removed_kind, choice_rows};
+ghost use Rattle.returned.specs.Refusal.{number_of, value_or0};
 
 use log_draft::Issuer;
 use log_issue::issue_entry;
 use record::kind::Kind;
-use returned::{ACCEPTED, NOT_EMPTY, Value, WRONG_KIND};
+use returned::Refusal;
 use session_admission::lent::admit;
-use session_change::change_refusal;
-use session_names::place::{Sought, seek};
+use session_change::accept_change;
+use session_names::place::seek;
 use session_names::text::text_refusal;
 use volume_entry::field::{is_directory, is_file};
 use volume_tree::entries::entry;
@@ -38,50 +39,50 @@ fn is_removed_kind(view: &[u8], n: usize, b: usize, object: usize, directory: bo
     is_file(entry(view, n, b, object))
 }
 
-// The refusal of an object that was found, for its kind and its children; 0 where there is none.
-fn choice_refusal(view: &[u8], n: usize, b: usize, object: usize, directory: bool) -> usize
+// The refusal of an object that was found, for its kind and its children.
+fn choice_refusal(
+    view: &[u8],
+    n: usize,
+    b: usize,
+    object: usize,
+    directory: bool,
+) -> Result<(), Refusal>
     requires lent { Lent n b view.now }
     requires object_lt_n { object < n }
-    ensures { result ≡ first_number (choice_rows (removed_kind directory) (read_volume n b view.now) object) }
+    ensures { number_of result ≡ first_number (choice_rows (removed_kind directory) (read_volume n b view.now) object) }
 {
     if is_removed_kind(view, n, b, object, directory) {
         if has_children(view, n, b, object) {
-            return NOT_EMPTY;
+            return Err(Refusal::NotEmpty);
         }
-        return ACCEPTED;
+        return Ok(());
     }
-    WRONG_KIND
+    Err(Refusal::WrongKind)
 }
 
-// The refusal of a name that is to be removed, or with 0 the object that it leads to.
-fn remove_refusal(
+// The object that a name leads to, if it may be removed.
+fn removed_object(
     view: &[u8],
     n: usize,
     b: usize,
     parent: usize,
     name: &[u8],
     directory: bool,
-) -> Sought
+) -> Result<usize, Refusal>
     requires { Lent n b view.now }
-    ensures { Finds (read_volume n b view.now) parent name.now (remove_rows (removed_kind directory) (read_volume n b view.now) parent name.now) result.refused result.object }
+    ensures { Finds (read_volume n b view.now) parent name.now (remove_rows (removed_kind directory) (read_volume n b view.now) parent name.now) result }
 {
-    let text = text_refusal(name);
-    if text != ACCEPTED {
-        return Sought {
-            refused: text,
-            object: 0,
-        };
+    if let Err(refusal) = text_refusal(name) {
+        return Err(refusal);
     }
-    let sought = seek(view, n, b, parent, name);
-    if sought.refused != ACCEPTED {
-        return sought;
+    let object = match seek(view, n, b, parent, name) {
+        Ok(object) => object,
+        Err(refusal) => return Err(refusal),
+    };
+    if let Err(refusal) = choice_refusal(view, n, b, object, directory) {
+        return Err(refusal);
     }
-    let object = sought.object;
-    let refused = choice_refusal(view, n, b, object, directory);
-    Sought {
-        refused: refused,
-        object: object,
-    }
+    Ok(object)
 }
 
 // Both calls: whether it is a directory that is removed is all they differ in.
@@ -96,23 +97,21 @@ fn remove(
     program: usize,
     parent: usize,
     name: &[u8],
-) -> Value
-    ensures { given result.returned (result.value ∷ []) [] (buffers server.now view.new log.new)
+) -> Result<usize, Refusal>
+    ensures { given (number_of result) (value_or0 result ∷ []) [] (buffers server.now view.new log.new)
         ≡ step (geometry n b m) (remove_call directory (issuer program) parent name.now) (buffers server.now view.old log.old) }
 {
-    let wrong = admit(n, b, m, server, view, log);
-    if wrong != ACCEPTED {
-        return Value::refused(wrong);
+    if let Err(refusal) = admit(n, b, m, server, view, log) {
+        return Err(refusal);
     }
-    let sought = remove_refusal(view, n, b, parent, name, directory);
-    let refused = change_refusal(log, n, b, m, program, sought.refused, 1);
-    if refused != ACCEPTED {
-        return Value::refused(refused);
-    }
-    let object = sought.object;
+    let own = removed_object(view, n, b, parent, name, directory);
+    let object = match accept_change(log, n, b, m, program, own, 1) {
+        Ok(object) => object,
+        Err(refusal) => return Err(refusal),
+    };
     let by = Issuer { program };
     let next = issue_entry(log, view, n, b, m, Kind::Remove, by, object, parent, name);
-    Value::of(ACCEPTED, next)
+    Ok(next)
 }
 
 // Removes a file.
@@ -126,8 +125,8 @@ pub fn remove_file(
     program: usize,
     parent: usize,
     name: &[u8],
-) -> Value
-    ensures { given result.returned (result.value ∷ []) [] (buffers server.now view.new log.new)
+) -> Result<usize, Refusal>
+    ensures { given (number_of result) (value_or0 result ∷ []) [] (buffers server.now view.new log.new)
         ≡ step (geometry n b m) (Call.remove_file (issuer program) parent name.now) (buffers server.now view.old log.old) }
 {
     remove(n, b, m, server, view, log, false, program, parent, name)
@@ -144,8 +143,8 @@ pub fn remove_directory(
     program: usize,
     parent: usize,
     name: &[u8],
-) -> Value
-    ensures { given result.returned (result.value ∷ []) [] (buffers server.now view.new log.new)
+) -> Result<usize, Refusal>
+    ensures { given (number_of result) (value_or0 result ∷ []) [] (buffers server.now view.new log.new)
         ≡ step (geometry n b m) (Call.remove_directory (issuer program) parent name.now) (buffers server.now view.old log.old) }
 {
     remove(n, b, m, server, view, log, true, program, parent, name)

@@ -2,8 +2,7 @@
 // in its parent."
 #![tactic(auto)]
 
-ghost use Rattle.std.specs.Prelude.{◌≡◌, ◌<◌, [], ◌∷◌, not, ◌&&◌, eqb};
-ghost use Rattle.record_writer.specs.Code.Writer.{displaced_by};
+ghost use Rattle.std.specs.Prelude.{ℕ, ◌≡◌, ◌<◌, [], ◌∷◌, not, ◌&&◌, eqb, Some};
 ghost use Rattle.volume_entry.specs.Entry.{is_directory};
 ghost use Rattle.volume_tree.specs.Volume.{entry_at, search};
 ghost use Rattle.volume_tree.specs.Stored.{read_volume};
@@ -14,40 +13,47 @@ ghost use Rattle.session.specs.Issue.{displaced};
 ghost use Rattle.session.specs.Step.{given, step};
 ghost use Rattle.session.specs.Code.Table.{first_number};
 ghost use Rattle.session_rename.specs.Code.Rename.{move_rows, Moves};
+ghost use Rattle.returned.specs.Refusal.{number_of, value_or0};
 
 use log_draft::Issuer;
 use log_issue::issue_rename;
-use returned::{ACCEPTED, NOT_EMPTY, Value, WRONG_KIND};
+use returned::Refusal;
 use session_admission::lent::admit;
 use session_admission::object::directory_refusal;
-use session_change::change_refusal;
+use session_change::accept_change;
 use session_names::place::seek;
 use session_names::text::{lower_of, text_refusal};
 use volume_entry::field::{is_directory, kind};
 use volume_tree::entries::entry;
-use volume_tree::search::{Found, has_children, search};
+use volume_tree::search::{has_children, search};
 
-// A refusal, or with 0 the object that is renamed and the one that it displaces, 0 for none.
-#[derive(Drop)]
+// The object that is renamed, and the one that it displaces, if any.
+#[derive(Clone, Copy)]
 pub struct Move {
-    pub refused: usize,
     pub object: usize,
-    pub displaced: usize,
+    pub displaced: Option<usize>,
 }
 
-// The object that a second name leads to, unless that is the object itself; 0 for none.
-fn displaced_by(view: &[u8], n: usize, b: usize, object: usize, parent: usize, name: &[u8]) -> usize
+// The object that a second name leads to, unless that is the object itself.
+fn displaced_by(
+    view: &[u8],
+    n: usize,
+    b: usize,
+    object: usize,
+    parent: usize,
+    name: &[u8],
+) -> Option<usize>
     requires { Lent n b view.now }
-    ensures { (displaced_by result ≡ displaced object (search (read_volume n b view.now) parent name.now)) × (result < n) }
+    ensures { (result ≡ displaced object (search (read_volume n b view.now) parent name.now)) × ((i : ℕ) → result ≡ Some i → i < n) }
 {
     match search(view, n, b, parent, name) {
-        Found::At(i) => {
+        Some(i) => {
             if i == object {
-                return 0;
+                return None;
             }
-            i
+            Some(i)
         }
-        Found::Nothing => 0,
+        None => None,
     }
 }
 
@@ -70,7 +76,7 @@ fn leaves_parent(
     false
 }
 
-// The refusal of an object that was found, for its kind and for what it displaces; 0 where there is none.
+// The refusal of an object that was found, for its kind and for what it displaces.
 fn move_refusal(
     view: &[u8],
     n: usize,
@@ -78,29 +84,29 @@ fn move_refusal(
     parent: usize,
     second: usize,
     object: usize,
-    displaced: usize,
-) -> usize
+    displaced: Option<usize>,
+) -> Result<(), Refusal>
     requires lent { Lent n b view.now }
-    requires object_lt_n { (object < n) × (displaced < n) }
-    ensures { result ≡ first_number (move_rows (read_volume n b view.now) parent second object (displaced_by displaced)) }
+    requires object_lt_n { (object < n) × ((i : ℕ) → displaced ≡ Some i → i < n) }
+    ensures { number_of result ≡ first_number (move_rows (read_volume n b view.now) parent second object displaced) }
 {
     if leaves_parent(view, n, b, object, parent, second) {
-        return WRONG_KIND;
+        return Err(Refusal::WrongKind);
     }
-    if displaced == 0 {
-        return ACCEPTED;
+    let Some(gone) = displaced else {
+        return Ok(());
+    };
+    if kind(entry(view, n, b, gone)) != kind(entry(view, n, b, object)) {
+        return Err(Refusal::WrongKind);
     }
-    if kind(entry(view, n, b, displaced)) != kind(entry(view, n, b, object)) {
-        return WRONG_KIND;
+    if has_children(view, n, b, gone) {
+        return Err(Refusal::NotEmpty);
     }
-    if has_children(view, n, b, displaced) {
-        return NOT_EMPTY;
-    }
-    ACCEPTED
+    Ok(())
 }
 
-// The refusal of a rename, or with 0 what it renames and displaces. What can be judged is judged over both sides.
-fn rename_refusal(
+// What a rename renames and displaces. What can be judged is judged over both sides.
+fn renamed(
     view: &[u8],
     n: usize,
     b: usize,
@@ -108,35 +114,23 @@ fn rename_refusal(
     name: &[u8],
     second: usize,
     second_name: &[u8],
-) -> Move
+) -> Result<Move, Refusal>
     requires { Lent n b view.now }
-    ensures { Moves (read_volume n b view.now) parent name.now second second_name.now result.refused result.object result.displaced }
+    ensures { Moves (read_volume n b view.now) parent name.now second second_name.now result }
 {
-    let text = lower_of(text_refusal(name), text_refusal(second_name));
-    if text != ACCEPTED {
-        return Move {
-            refused: text,
-            object: 0,
-            displaced: 0,
-        };
+    if let Err(refusal) = lower_of(text_refusal(name), text_refusal(second_name)) {
+        return Err(refusal);
     }
     let sought = seek(view, n, b, parent, name);
-    let place = lower_of(sought.refused, directory_refusal(view, n, b, second));
-    if place != ACCEPTED {
-        return Move {
-            refused: place,
-            object: 0,
-            displaced: 0,
-        };
-    }
-    let object = sought.object;
+    let object = match lower_of(sought, directory_refusal(view, n, b, second)) {
+        Ok(object) => object,
+        Err(refusal) => return Err(refusal),
+    };
     let displaced = displaced_by(view, n, b, object, second, second_name);
-    let refused = move_refusal(view, n, b, parent, second, object, displaced);
-    Move {
-        refused: refused,
-        object: object,
-        displaced: displaced,
+    if let Err(refusal) = move_refusal(view, n, b, parent, second, object, displaced) {
+        return Err(refusal);
     }
+    Ok(Move { object, displaced })
 }
 
 pub fn rename(
@@ -151,19 +145,18 @@ pub fn rename(
     name: &[u8],
     second_parent: usize,
     second_name: &[u8],
-) -> Value
-    ensures { given result.returned (result.value ∷ []) [] (buffers server.now view.new log.new)
+) -> Result<usize, Refusal>
+    ensures { given (number_of result) (value_or0 result ∷ []) [] (buffers server.now view.new log.new)
         ≡ step (geometry n b m) (Call.rename (issuer program) parent name.now second_parent second_name.now) (buffers server.now view.old log.old) }
 {
-    let wrong = admit(n, b, m, server, view, log);
-    if wrong != ACCEPTED {
-        return Value::refused(wrong);
+    if let Err(refusal) = admit(n, b, m, server, view, log) {
+        return Err(refusal);
     }
-    let found = rename_refusal(view, n, b, parent, name, second_parent, second_name);
-    let refused = change_refusal(log, n, b, m, program, found.refused, 1);
-    if refused != ACCEPTED {
-        return Value::refused(refused);
-    }
+    let own = renamed(view, n, b, parent, name, second_parent, second_name);
+    let found = match accept_change(log, n, b, m, program, own, 1) {
+        Ok(found) => found,
+        Err(refusal) => return Err(refusal),
+    };
     let object = found.object;
     let displaced = found.displaced;
     let by = Issuer { program };
@@ -181,5 +174,5 @@ pub fn rename(
         name,
         second_name,
     );
-    Value::of(ACCEPTED, next)
+    Ok(next)
 }

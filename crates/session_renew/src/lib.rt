@@ -5,9 +5,9 @@ ghost use Rattle.std.specs.Prelude.{◌≡◌, []};
 ghost use Rattle.session.specs.Call.{geometry, buffers};
 ghost use Rattle.session.specs.Call;
 ghost use Rattle.session.specs.Step.{given, step};
+ghost use Rattle.returned.specs.Refusal.{number_of};
 
-use log_find::Position;
-use returned::{ACCEPTED, Code};
+use returned::Refusal;
 use session_admission::lent::admit;
 use session_admission::program::number_refusal;
 use session_losses::loss_in;
@@ -20,24 +20,21 @@ pub fn renew(
     view: &[u8],
     log: &mut [u8],
     program: usize,
-) -> Code
-    ensures { given result.returned [] [] (buffers server.now view.now log.new)
+) -> Result<(), Refusal>
+    ensures { given (number_of result) [] [] (buffers server.now view.now log.new)
         ≡ step (geometry n b m) (Call.renew program) (buffers server.now view.now log.old) }
 {
-    let wrong = admit(n, b, m, server, view, log);
-    if wrong != ACCEPTED {
-        return Code::of(wrong);
+    if let Err(refusal) = admit(n, b, m, server, view, log) {
+        return Err(refusal);
     }
-    let refused = number_refusal(program);
-    if refused != ACCEPTED {
-        return Code::of(refused);
+    if let Err(refusal) = number_refusal(program) {
+        return Err(refusal);
     }
-    let found = loss_in(log, m, program);
-    match found {
-        Position::At(_) => Code::of(found.left()),
-        Position::Nothing => {
+    match loss_in(log, m, program) {
+        Some(_) => Err(Refusal::LossesLeft),
+        None => {
             log_take::renew(log, m, program);
-            Code::of(ACCEPTED)
+            Ok(())
         }
     }
 }

@@ -5,9 +5,9 @@ ghost use Rattle.std.specs.Prelude.{◌≡◌, [], ◌∷◌};
 ghost use Rattle.session.specs.Call.{geometry, buffers};
 ghost use Rattle.session.specs.Call;
 ghost use Rattle.session.specs.Step.{given, step};
+ghost use Rattle.returned.specs.Refusal.{number_of, value_or0};
 
-use log_find::Position;
-use returned::{ACCEPTED, SHORT_BUFFER, Value};
+use returned::Refusal;
 use session_admission::lent::admit;
 use session_admission::program::number_refusal;
 use session_losses::loss_in;
@@ -24,27 +24,23 @@ pub fn take(
     log: &mut [u8],
     program: usize,
     buffer: &mut [u8],
-) -> Value
-    ensures { given result.returned (result.value ∷ []) buffer.new (buffers server.now view.now log.new)
+) -> Result<usize, Refusal>
+    ensures { given (number_of result) (value_or0 result ∷ []) buffer.new (buffers server.now view.now log.new)
         ≡ step (geometry n b m) (Call.take program buffer.old) (buffers server.now view.now log.old) }
 {
-    let wrong = admit(n, b, m, server, view, log);
-    if wrong != ACCEPTED {
-        return Value::refused(wrong);
+    if let Err(refusal) = admit(n, b, m, server, view, log) {
+        return Err(refusal);
     }
-    let refused = number_refusal(program);
-    if refused != ACCEPTED {
-        return Value::refused(refused);
+    if let Err(refusal) = number_refusal(program) {
+        return Err(refusal);
     }
-    let found = loss_in(log, m, program);
-    match found {
-        Position::Nothing => Value::refused(found.sought()),
-        Position::At(i) => {
+    match loss_in(log, m, program) {
+        None => Err(Refusal::NotFound),
+        Some(i) => {
             if buffer.len() < LONGEST {
-                return Value::refused(SHORT_BUFFER);
+                return Err(Refusal::ShortBuffer);
             }
-            let len = log_take::take(log, m, i, buffer);
-            Value::of(ACCEPTED, len)
+            Ok(log_take::take(log, m, i, buffer))
         }
     }
 }

@@ -7,14 +7,15 @@ ghost use Rattle.session.specs.Call;
 ghost use Rattle.session.specs.Step.{given, step};
 ghost use Rattle.session.specs.Edit.{bad_range, write_rows};
 ghost use Rattle.session.specs.Code.Table.{first_number};
+ghost use Rattle.returned.specs.Refusal.{number_of, value_or0};
 
 use crate::file::length_of;
 use buffer::BLOCK;
 use log_draft::Issuer;
-use returned::{ACCEPTED, BAD_RANGE, Value};
+use returned::Refusal;
 use session_admission::lent::admit;
 use session_admission::object::file_refusal;
-use session_change::change_refusal;
+use session_change::accept_change;
 use session_operations::operations::{issue_writes, operations};
 
 // "12 Bad range: write of 0 bytes, across blocks .., beyond length or b": for numbers of any size.
@@ -22,26 +23,16 @@ fn bad_range(b: usize, len: usize, offset: usize, count: usize) -> bool
     requires { b ≤ 64 }
     ensures { result ≡ bad_range b len offset count }
 {
-    if count == 0 {
-        return true;
-    }
-    if BLOCK < count {
-        return true;
-    }
-    if BLOCK < offset % BLOCK + count {
-        return true;
-    }
-    if len < offset {
-        return true;
-    }
     let most = BLOCK * b;
-    if most < offset {
-        return true;
-    }
-    most - offset < count
+    count == 0
+        || BLOCK < count
+        || BLOCK < offset % BLOCK + count
+        || len < offset
+        || most < offset
+        || most - offset < count
 }
 
-// What the object, the offset and the data are refused for; 0 where they are not.
+// What the object, the offset and the data are refused for.
 pub fn write_refusal(
     view: &[u8],
     n: usize,
@@ -49,19 +40,18 @@ pub fn write_refusal(
     object: usize,
     offset: usize,
     data: &[u8],
-) -> usize
+) -> Result<(), Refusal>
     requires { Lent n b view.now }
-    ensures { result ≡ first_number (write_rows b (read_volume n b view.now) object offset «data».now) }
+    ensures { number_of result ≡ first_number (write_rows b (read_volume n b view.now) object offset «data».now) }
 {
-    let refused = file_refusal(view, n, b, object);
-    if refused != ACCEPTED {
-        return refused;
+    if let Err(refusal) = file_refusal(view, n, b, object) {
+        return Err(refusal);
     }
     let len = length_of(view, n, b, object);
     if bad_range(b, len, offset, data.len()) {
-        return BAD_RANGE;
+        return Err(Refusal::BadRange);
     }
-    ACCEPTED
+    Ok(())
 }
 
 pub fn write(
@@ -75,22 +65,20 @@ pub fn write(
     object: usize,
     offset: usize,
     data: &[u8],
-) -> Value
-    ensures { given result.returned (result.value ∷ []) [] (buffers server.now view.new log.new)
+) -> Result<usize, Refusal>
+    ensures { given (number_of result) (value_or0 result ∷ []) [] (buffers server.now view.new log.new)
         ≡ step (geometry n b m) (Call.write (issuer program) object offset «data».now) (buffers server.now view.old log.old) }
 {
-    let wrong = admit(n, b, m, server, view, log);
-    if wrong != ACCEPTED {
-        return Value::refused(wrong);
+    if let Err(refusal) = admit(n, b, m, server, view, log) {
+        return Err(refusal);
     }
     let own = write_refusal(view, n, b, object, offset, data);
     let len = length_of(view, n, b, object);
     let count = operations(len, offset, data);
-    let refused = change_refusal(log, n, b, m, program, own, count);
-    if refused != ACCEPTED {
-        return Value::refused(refused);
+    if let Err(refusal) = accept_change(log, n, b, m, program, own, count) {
+        return Err(refusal);
     }
     let by = Issuer { program };
     let number = issue_writes(log, view, n, b, m, by, object, len, offset, data);
-    Value::of(ACCEPTED, number)
+    Ok(number)
 }

@@ -8,7 +8,7 @@ fn digit(v: usize) -> u8
     requires { v < 10 }
     ensures { result ≡ digit_of v }
 {
-    48 + v as u8
+    b'0' + v as u8
 }
 
 // Puts a number's digits at a place, and answers the place after them.

@@ -9,10 +9,5 @@ pub fn keep_rest(buf: &mut [u8], from: usize, to: usize)
     ensures moved { buf.new ≡ patch buf.old 0 (take (to - from) (drop from buf.old)) }
     ensures kept { take (to - from) buf.new ≡ drop from (take to buf.old) }
 {
-    let n = to - from;
-    let mut i = 0;
-    while i < n {
-        buf[i] = buf[from + i];
-        i += 1;
-    }
+    buf.copy_within(from..to, 0);
 }

@@ -13,7 +13,7 @@ use record_reader::{Objects, Whole};
 use record_valid::valid::stands;
 use volume_entry::field::{contents, is_directory, is_file, is_used, kind};
 use volume_tree::entries::entry;
-use volume_tree::search::{Found, has_children, search};
+use volume_tree::search::{has_children, search};
 
 // Whether a name leads to an object; it is sought only in a directory.
 fn leads_to(s: &[u8], n: usize, b: usize, d: usize, name: &[u8], o: usize) -> bool
@@ -23,8 +23,8 @@ fn leads_to(s: &[u8], n: usize, b: usize, d: usize, name: &[u8], o: usize) -> bo
 {
     if is_directory(entry(s, n, b, d)) {
         return match search(s, n, b, d, name) {
-            Found::At(i) => i == o,
-            Found::Nothing => false,
+            Some(i) => i == o,
+            None => false,
         };
     }
     false
@@ -38,8 +38,8 @@ fn has_room(s: &[u8], n: usize, b: usize, o: usize, p: usize, name: &[u8]) -> bo
 {
     if is_directory(entry(s, n, b, p)) {
         return match search(s, n, b, p, name) {
-            Found::At(i) => false,
-            Found::Nothing => !is_used(entry(s, n, b, o)),
+            Some(i) => false,
+            None => !is_used(entry(s, n, b, o)),
         };
     }
     false
@@ -102,7 +102,7 @@ fn is_yielding(
     requires o_lt_n { o < n }
     ensures { result ≡ yields (read_volume n b s.now) o q (displaced_if displacing d) name.now }
 {
-    let Found::At(i) = search(s, n, b, q, name) else {
+    let Some(i) = search(s, n, b, q, name) else {
         if displacing {
             return false;
         }

@@ -1,6 +1,6 @@
 -- Document 01, "Returned numbers" (its last paragraph) and "Calls": when an operation applies to a volume, and what it leaves.
 use Rattle.std.specs.Prelude.{ℕ, ◌+◌, List, [], ◌++◌, Bool, true, false, not, ◌&&◌, ◌||◌, length, set, leb, ltb, eqb}
-use Rattle.std.proofs.Math.Option.{Option, none, some}
+use Rattle.std.specs.Prelude.{Option, None, Some}
 use Rattle.buffer.specs.Patch.{patch}
 use Rattle.record.specs.Operation.{Operation, create_file, make_directory, remove, rename, overwrite, append, set_length, forder}
 use Rattle.volume_entry.specs.Entry.{free, file, directory, is_used, is_file, is_directory, contents_of, renamed, refilled, kind_number}
@@ -8,12 +8,12 @@ use Rattle.volume_entry.specs.Write.{resized}
 use Rattle.volume_tree.specs.Volume.{Volume, entry_at, search, has_children}
 
 abbrev pub is_absent : Option ℕ → Bool
-is_absent none = true
-is_absent (some i) = false
+is_absent None = true
+is_absent (Some i) = false
 
 abbrev pub is_at : ℕ → Option ℕ → Bool
-is_at o none = false
-is_at o (some i) = eqb i o
+is_at o None = false
+is_at o (Some i) = eqb i o
 
 -- "names lead to the recorded objects": a name is sought only in a directory
 abbrev pub leads : Volume → ℕ → List ℕ → ℕ → Bool
@@ -35,8 +35,8 @@ displaceable v o d = eqb (kind_number (entry_at v d)) (kind_number (entry_at v o
 -- "a rename with map 55 needs its second name absent or leading to the object"; with map 63 the second name leads to the
 -- displaced object
 abbrev pub yields : Volume → ℕ → ℕ → Option ℕ → List ℕ → Bool
-yields v o q none m = is_absent (search v q m) || is_at o (search v q m)
-yields v o q (some d) m = is_at d (search v q m) && displaceable v o d
+yields v o q None m = is_absent (search v q m) || is_at o (search v q m)
+yields v o q (Some d) m = is_at d (search v q m) && displaceable v o d
 
 -- a removed object is named and without children
 abbrev pub removable : Volume → ℕ → ℕ → List ℕ → Bool
@@ -66,8 +66,8 @@ applies v (forder l) = true
 
 -- a displaced object is gone
 abbrev pub without_displaced : Volume → Option ℕ → Volume
-without_displaced v none = v
-without_displaced v (some d) = set v d free
+without_displaced v None = v
+without_displaced v (Some d) = set v d free
 
 -- what an operation leaves of a volume
 unfoldable pub apply : Volume → Operation → Volume

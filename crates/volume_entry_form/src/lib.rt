@@ -8,7 +8,7 @@ ghost use Rattle.volume_entry_form.specs.Code.Check.{name_formed, data_formed, e
 use buffer::BLOCK;
 use buffer::number::{byte_at, four_at};
 use buffer::zero::all_zero;
-use names::{LONGEST_NAME, NameText, name_text};
+use names::{LONGEST_NAME, name_text};
 use volume_entry::{DATA_AT, DIRECTORY, FILE, FREE, LENGTH_AT};
 
 // "a valid name" of at most 60 bytes, and zeros behind it.
@@ -22,9 +22,8 @@ fn name_formed(e: &[u8]) -> bool
     }
     let end = 4 + len;
     match name_text(&e[4..end]) {
-        NameText::Fine => all_zero(&e[end..LENGTH_AT]),
-        NameText::Bad => false,
-        NameText::Long => false,
+        Ok(()) => all_zero(&e[end..LENGTH_AT]),
+        Err(_) => false,
     }
 }
 

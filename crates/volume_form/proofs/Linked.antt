@@ -27,7 +27,7 @@ needs-volume_form W h n0 n1 n2 n3 n4 n5 = (h, n0, n1, n2, n3, n4, n5, tt)
 
 below : (W : World) → Needs-volume_form W → link.Below W
 unfolding Needs-volume_form
-below W n = (b0.linked-field-has_name W n.1, (b0.linked-field-is_directory W n.1, (b0.linked-field-parent W n.1, (b1.linked-entry_formed W n.2, (b1.linked-root_formed W n.2, (b2.linked-entries-entry W n.3, (b2.linked-entries-is_lent W n.3, (b3.linked-digest-digests_of W n.4, (b3.linked-twins-all_alone W n.4, tt)))))))))
+below W n = (b0.linked-field-has_name W n.1, (b0.linked-field-is_directory W n.1, (b0.linked-field-parent W n.1, (b1.linked-entry_formed W n.2, (b1.linked-root_formed W n.2, (b2.linked-entries-entry W n.3, (b2.linked-entries-is_lent W n.3, (b2.linked-numbers-every W n.3, (b3.linked-digest-digests_of W n.4, (b3.linked-twins-all_alone W n.4, tt))))))))))
 
 pub linked-well_formed : (W : World) → Needs-volume_form W → HasT (in_world W) true s-well_formed.code
 unfolding Needs-volume_form table-volume_form

@@ -7,8 +7,10 @@ ghost use Rattle.volume_form.specs.Code.Checks.{Numbers, parented, parents_forme
 
 use volume_entry::field::{has_name, is_directory, parent};
 use volume_tree::entries::entry;
+use volume_tree::numbers::every;
 
 // Whether an entry is the root, has no name, or has a used directory as parent.
+#[tactic(auto, using(volume_tree::specs::Laws::Lent::entries))]
 fn is_parented(s: &[u8], n: usize, b: usize, i: usize) -> bool
     requires lent { Lent n b s.now }
     requires i_lt_n { i < n }
@@ -33,15 +35,7 @@ pub fn parents_formed(s: &[u8], n: usize, b: usize) -> bool
     requires { Lent n b s.now }
     ensures { result ≡ parents_formed (read_volume n b s.now) }
 {
-    let mut i = 0;
-    while i < n {
-        if is_parented(s, n, b, i) {
-            i += 1;
-        } else {
-            return false;
-        }
-    }
-    true
+    every(n, |i| is_parented(s, n, b, i))
 }
 
 // Every entry's parent, gathered so that the later tests do not go through the volume again.
@@ -50,10 +44,8 @@ pub fn parents_of(s: &[u8], n: usize, b: usize) -> [usize; 256]
     ensures { Gathered (read_volume n b s.now) result }
 {
     let mut parents = [0usize; 256];
-    let mut i = 0;
-    while i < n {
+    for i in 0..n {
         parents[i] = parent(entry(s, n, b, i));
-        i += 1;
     }
     parents
 }
@@ -65,13 +57,11 @@ fn leads(parents: &[usize; 256], n: usize, i: usize) -> bool
     ensures { result ≡ climbs_by n parents.now i }
 {
     let mut at = i;
-    let mut left = n;
-    while 0 < left {
+    for _ in 0..n {
         if at == 0 {
             return true;
         }
         at = parents[at];
-        left -= 1;
     }
     at == 0
 }
@@ -82,13 +72,5 @@ pub fn all_lead(parents: &[usize; 256], n: usize) -> bool
     requires numbers { Numbers parents.now }
     ensures { result ≡ all_lead n parents.now }
 {
-    let mut i = 0;
-    while i < n {
-        if leads(parents, n, i) {
-            i += 1;
-        } else {
-            return false;
-        }
-    }
-    true
+    every(n, |i| leads(parents, n, i))
 }

@@ -8,6 +8,7 @@ use Rattle.paths.proofs.Linked as b1
 use Rattle.volume_entry.proofs.Linked as b2
 use Rattle.volume_tree.proofs.Linked as b3
 use Rattle.returned.proofs.Linked as b4
+use Rattle.volume_lookup.proofs.lookup.RefusalFromLookupError.from.Symbol as s-lookup-RefusalFromLookupError-from
 use Rattle.volume_lookup.proofs.lookup.lookup.Symbol as s-lookup-lookup
 pub use Rattle.volume_tree.proofs.Linked.{table-buffer, Needs-buffer, needs-buffer, table-returned, Needs-returned, needs-returned, table-names, Needs-names, needs-names, table-volume_entry, Needs-volume_entry, needs-volume_entry, table-volume_tree, Needs-volume_tree, needs-volume_tree}
 pub use Rattle.paths.proofs.Linked.{table-paths, Needs-paths, needs-paths}
@@ -27,6 +28,10 @@ needs-volume_lookup W h n0 n1 n2 n3 n4 = (h, n0, n1, n2, n3, n4, tt)
 below : (W : World) → Needs-volume_lookup W → link.Below W
 unfolding Needs-volume_lookup
 below W n = (b0.linked-name_text W n.1, (b1.linked-component W n.2, (b1.linked-path_text W n.2, (b2.linked-field-is_directory W n.3, (b3.linked-entries-entry W n.4, (b3.linked-search-search W n.4, tt))))))
+
+pub linked-lookup-RefusalFromLookupError-from : (W : World) → Needs-volume_lookup W → HasT (in_world W) true s-lookup-RefusalFromLookupError-from.code
+unfolding Needs-volume_lookup table-volume_lookup
+linked-lookup-RefusalFromLookupError-from W n = link.linked-volume_lookup::lookup::RefusalFromLookupError::from W n.0 (below W n)
 
 pub linked-lookup-lookup : (W : World) → Needs-volume_lookup W → HasT (in_world W) true s-lookup-lookup.code
 unfolding Needs-volume_lookup table-volume_lookup

@@ -1,3 +1,4 @@
 pub mod Listing
+pub mod Told
 pub mod Answer
 pub mod Laws

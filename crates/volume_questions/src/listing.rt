@@ -1,24 +1,39 @@
 // List: "per child number 2, kind 1, name length 1, name; rising numbers".
-ghost use Rattle.std.specs.Prelude.{◌≡◌, ◌+◌, ◌≤◌, ◌<◌, length};
+ghost use Rattle.std.specs.Prelude.{◌≡◌, ◌+◌, ◌≤◌, ◌<◌, length, Err};
+ghost use Rattle.returned.specs.Refusal.{refusal_number};
 ghost use Rattle.buffer.specs.Patch.{Put};
 ghost use Rattle.volume_tree.specs.Stored.{read_volume};
 ghost use Rattle.volume_tree.specs.Code.Lent.{Lent};
 ghost use Rattle.volume_questions.specs.Listing.{listing, listed_at};
-ghost use Rattle.volume_questions.specs.Answer.{list_answer, list_leaves};
+ghost use Rattle.volume_questions.specs.Answer.{list_answer, list_leaves, list_number};
 
-use crate::object::{Object, object_at};
+use crate::object::{ObjectError, ObjectKind, object_at};
 use buffer::put::{put_bytes, put_one, put_two};
+use returned::Refusal;
 use volume_entry::field::{kind, name};
 use volume_tree::entries::entry;
 use volume_tree::search::is_child;
 
-#[derive(Drop)]
-pub enum Listed {
-    Bytes(usize),
+// Why nothing is listed.
+#[derive(Clone, Copy, PartialEq, Eq)]
+pub enum ListError {
     BadNumber,
     NoObject,
     WrongKind,
     Short,
+}
+
+impl From<ListError> for Refusal {
+    ghost from_gives = { λ e r. refusal_number r ≡ list_number (Err e) };
+
+    fn from(error: ListError) -> Refusal {
+        match error {
+            ListError::BadNumber => Refusal::BadNumber,
+            ListError::NoObject => Refusal::NoObject,
+            ListError::WrongKind => Refusal::WrongKind,
+            ListError::Short => Refusal::ShortBuffer,
+        }
+    }
 }
 
 // The bytes that an entry takes in the listing of a directory.
@@ -39,10 +54,8 @@ fn listing_len(s: &[u8], n: usize, b: usize, d: usize) -> usize
     ensures { result ≡ length (listing (read_volume n b s.now) d n) }
 {
     let mut len = 0;
-    let mut i = 0;
-    while i < n {
+    for i in 0..n {
         len += listed_len(s, n, b, d, i);
-        i += 1;
     }
     len
 }
@@ -72,29 +85,27 @@ fn put_listing(s: &[u8], n: usize, b: usize, d: usize, buf: &mut [u8]) -> usize
     ensures { Put (listing (read_volume n b s.now) d n) 0 buf.old buf.new result }
 {
     let mut at = 0;
-    let mut i = 0;
-    while i < n {
+    for i in 0..n {
         at = put_listed(s, n, b, d, i, buf, at);
-        i += 1;
     }
     at
 }
 
 // Lists a directory into a buffer; where it does not fit, nothing is written.
-pub fn list(s: &[u8], n: usize, b: usize, o: usize, buf: &mut [u8]) -> Listed
+pub fn list(s: &[u8], n: usize, b: usize, o: usize, buf: &mut [u8]) -> Result<usize, ListError>
     requires { Lent n b s.now }
     ensures answer { result ≡ list_answer (read_volume n b s.now) o buf.old }
     ensures buffer { buf.new ≡ list_leaves (read_volume n b s.now) o buf.old }
 {
     match object_at(s, n, b, o) {
-        Object::BadNumber => Listed::BadNumber,
-        Object::Free => Listed::NoObject,
-        Object::File => Listed::WrongKind,
-        Object::Directory => {
+        Err(ObjectError::BadNumber) => Err(ListError::BadNumber),
+        Err(ObjectError::NoObject) => Err(ListError::NoObject),
+        Ok(ObjectKind::File) => Err(ListError::WrongKind),
+        Ok(ObjectKind::Directory) => {
             if buf.len() < listing_len(s, n, b, o) {
-                return Listed::Short;
+                return Err(ListError::Short);
             }
-            Listed::Bytes(put_listing(s, n, b, o, buf))
+            Ok(put_listing(s, n, b, o, buf))
         }
     }
 }

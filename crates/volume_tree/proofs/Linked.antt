@@ -9,6 +9,7 @@ use Rattle.buffer.proofs.Linked as b2
 use Rattle.returned.proofs.Linked as b3
 use Rattle.volume_tree.proofs.entries.entry.Symbol as s-entries-entry
 use Rattle.volume_tree.proofs.entries.is_lent.Symbol as s-entries-is_lent
+use Rattle.volume_tree.proofs.numbers.every.Symbol as s-numbers-every
 use Rattle.volume_tree.proofs.search.has_children.Symbol as s-search-has_children
 use Rattle.volume_tree.proofs.search.is_child.Symbol as s-search-is_child
 use Rattle.volume_tree.proofs.search.search.Symbol as s-search-search
@@ -37,6 +38,10 @@ linked-entries-entry W n = link.linked-volume_tree::entries::entry W n.0 (below 
 pub linked-entries-is_lent : (W : World) → Needs-volume_tree W → HasT (in_world W) true s-entries-is_lent.code
 unfolding Needs-volume_tree table-volume_tree
 linked-entries-is_lent W n = link.linked-volume_tree::entries::is_lent W n.0 (below W n)
+
+pub linked-numbers-every : (W : World) → Needs-volume_tree W → HasT (in_world W) true s-numbers-every.code
+unfolding Needs-volume_tree table-volume_tree
+linked-numbers-every W n = link.linked-volume_tree::numbers::every W n.0 (below W n)
 
 pub linked-search-has_children : (W : World) → Needs-volume_tree W → HasT (in_world W) true s-search-has_children.code
 unfolding Needs-volume_tree table-volume_tree

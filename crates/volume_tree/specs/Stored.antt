@@ -1,6 +1,6 @@
 -- Document 01, "Geometry and stored form": the bytes of a volume, and the volume of some bytes.
 use Rattle.std.specs.Prelude.{ℕ, zero, suc, ◌*◌, List, [], ◌∷◌, ◌++◌, Bool, ◌&&◌, cond, length, take, drop, eqb}
-use Rattle.std.proofs.Math.Option.{Option, none, some}
+use Rattle.std.specs.Prelude.{Option, None, Some}
 use Rattle.buffer.specs.Geometry.{good_objects, good_blocks}
 use Rattle.buffer.specs.Decoded.{is_some}
 use Rattle.volume_entry.specs.Stored.{entry_bytes, encode_entry, same_bytes, read_entry}
@@ -22,7 +22,7 @@ read_volume (suc n) b s = read_entry (take (entry_bytes b) s) ∷ read_volume n 
 -- tell of
 unfoldable pub decode_volume : ℕ → ℕ → List ℕ → Option Volume
 decode_volume n b s =
-    cond (well_formed n b (read_volume n b s) && same_bytes (encode_volume b (read_volume n b s)) s) (some (read_volume n b s)) none
+    cond (well_formed n b (read_volume n b s) && same_bytes (encode_volume b (read_volume n b s)) s) (Some (read_volume n b s)) None
 
 -- "n objects (2..256), b blocks a file (1..64)", "n entries of 68 + 1,024 × b bytes": else "1 Wrong buffer"
 unfoldable pub lent : ℕ → ℕ → List ℕ → Bool

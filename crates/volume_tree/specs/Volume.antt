@@ -1,6 +1,6 @@
 -- Document 01, "Geometry and stored form": a volume is its entries; children, and the search of a name in a directory.
 use Rattle.std.specs.Prelude.{ℕ, zero, suc, List, [], ◌∷◌, Bool, true, not, ◌&&◌, cond, length, get_or, replicate, eqb}
-use Rattle.std.proofs.Math.Option.{Option, none, some}
+use Rattle.std.specs.Prelude.{Option, None, Some}
 use Rattle.names.specs.Name.{same_name}
 use Rattle.volume_entry.specs.Entry.{Entry, free, root, has_name, name_of, parent_of}
 
@@ -18,12 +18,12 @@ every (suc k) f = every k f && f k
 
 -- the lowest number below a bound that passes a test
 unfoldable pub lowest : ℕ → (ℕ → Bool) → Option ℕ
-lowest zero f = none
+lowest zero f = None
 lowest (suc k) f = after (lowest k f)
   where
     after : Option ℕ → Option ℕ
-    after (some i) = some i
-    after none = cond (f k) (some k) none
+    after (Some i) = Some i
+    after None = cond (f k) (Some k) None
 
 -- what has a name is a child of its parent: "Entry 0 is nobody's child."
 abbrev pub is_child : Volume → ℕ → ℕ → Bool

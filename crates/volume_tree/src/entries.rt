@@ -7,22 +7,11 @@ use buffer::BLOCK;
 use volume_entry::DATA_AT;
 
 // Whether n, b and the length are as document 01 has them: "n objects (2..256), b blocks a file (1..64)".
+#[tactic(auto, unfolding(crate::specs::Stored::lent))]
 pub fn is_lent(s: &[u8], n: usize, b: usize) -> bool
     ensures { result ≡ lent n b s.now }
 {
-    if n < 2 {
-        return false;
-    }
-    if 256 < n {
-        return false;
-    }
-    if b < 1 {
-        return false;
-    }
-    if 64 < b {
-        return false;
-    }
-    s.len() == n * (DATA_AT + BLOCK * b)
+    2 <= n && n <= 256 && 1 <= b && b <= 64 && s.len() == n * (DATA_AT + BLOCK * b)
 }
 
 // The entry of an object's number, as a part of the volume.

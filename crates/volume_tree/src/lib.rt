@@ -3,4 +3,5 @@
 #![tactic(auto)]
 
 pub mod entries;
+pub mod numbers;
 pub mod search;

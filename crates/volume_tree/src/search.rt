@@ -3,20 +3,14 @@ ghost use Rattle.std.specs.Prelude.{◌≡◌, ◌<◌};
 ghost use Rattle.volume_tree.specs.Volume.{is_child, is_named, search, has_children};
 ghost use Rattle.volume_tree.specs.Stored.{read_volume};
 ghost use Rattle.volume_tree.specs.Code.Lent.{Lent};
-ghost use Rattle.volume_tree.specs.Answer.{found_of};
 
 use crate::entries::entry;
+use crate::numbers::{every, lowest};
 use names::same_name;
 use volume_entry::field::{has_name, name, parent};
 
-// What a name leads to in a directory.
-#[derive(Drop)]
-pub enum Found {
-    At(usize),
-    Nothing,
-}
-
 // Whether an entry is a child of a directory: "Entry 0 is nobody's child."
+#[tactic(auto, using(crate::specs::Laws::Lent::entries))]
 pub fn is_child(s: &[u8], n: usize, b: usize, d: usize, i: usize) -> bool
     requires lent { Lent n b s.now }
     requires i_lt_n { i < n }
@@ -26,37 +20,25 @@ pub fn is_child(s: &[u8], n: usize, b: usize, d: usize, i: usize) -> bool
         return false;
     }
     let e = entry(s, n, b, i);
-    if has_name(e) {
-        return parent(e) == d;
-    }
-    false
+    has_name(e) && parent(e) == d
 }
 
 // Whether an entry is the child of a directory with a name. Names are compared only where parents agree.
+#[tactic(auto, using(crate::specs::Laws::Lent::entries))]
 fn is_named(s: &[u8], n: usize, b: usize, d: usize, wanted: &[u8], i: usize) -> bool
     requires lent { Lent n b s.now }
     requires i_lt_n { i < n }
     ensures { result ≡ is_named (read_volume n b s.now) d wanted.now i }
 {
-    if is_child(s, n, b, d, i) {
-        return same_name(name(entry(s, n, b, i)), wanted);
-    }
-    false
+    is_child(s, n, b, d, i) && same_name(name(entry(s, n, b, i)), wanted)
 }
 
-// The object that a name leads to in a directory.
-pub fn search(s: &[u8], n: usize, b: usize, d: usize, wanted: &[u8]) -> Found
+// The object that a name leads to in a directory, if there is one.
+pub fn search(s: &[u8], n: usize, b: usize, d: usize, wanted: &[u8]) -> Option<usize>
     requires { Lent n b s.now }
-    ensures { result ≡ found_of (search (read_volume n b s.now) d wanted.now) }
+    ensures { result ≡ search (read_volume n b s.now) d wanted.now }
 {
-    let mut i = 1;
-    while i < n {
-        if is_named(s, n, b, d, wanted, i) {
-            return Found::At(i);
-        }
-        i += 1;
-    }
-    Found::Nothing
+    lowest(n, |i| is_named(s, n, b, d, wanted, i))
 }
 
 // Whether a directory has children.
@@ -64,12 +46,5 @@ pub fn has_children(s: &[u8], n: usize, b: usize, d: usize) -> bool
     requires { Lent n b s.now }
     ensures { result ≡ has_children (read_volume n b s.now) d }
 {
-    let mut i = 1;
-    while i < n {
-        if is_child(s, n, b, d, i) {
-            return true;
-        }
-        i += 1;
-    }
-    false
+    !every(n, |i| !is_child(s, n, b, d, i))
 }

@@ -25,7 +25,7 @@ needs-volume_unique W h n0 n1 n2 n3 = (h, n0, n1, n2, n3, tt)
 
 below : (W : World) → Needs-volume_unique W → link.Below W
 unfolding Needs-volume_unique
-below W n = (b0.linked-number-byte_at W n.1, (b1.linked-same_name W n.2, (b2.linked-field-name W n.3, (b3.linked-entries-entry W n.4, (b3.linked-search-is_child W n.4, tt)))))
+below W n = (b0.linked-number-byte_at W n.1, (b1.linked-same_name W n.2, (b2.linked-field-name W n.3, (b3.linked-entries-entry W n.4, (b3.linked-numbers-every W n.4, (b3.linked-search-is_child W n.4, tt))))))
 
 pub linked-digest-digests_of : (W : World) → Needs-volume_unique W → HasT (in_world W) true s-digest-digests_of.code
 unfolding Needs-volume_unique table-volume_unique

@@ -14,10 +14,8 @@ fn digest_of(name: &[u8]) -> usize
     ensures { result ≡ digest name.now }
 {
     let mut seen = 0;
-    let mut i = 0;
-    while i < name.len() {
+    for i in 0..name.len() {
         seen = seen % 4294967296 * 31 + byte_at(name, i) % 32;
-        i += 1;
     }
     seen
 }
@@ -28,10 +26,8 @@ pub fn digests_of(s: &[u8], n: usize, b: usize) -> [usize; 256]
     ensures { Digested (read_volume n b s.now) result }
 {
     let mut digests = [0usize; 256];
-    let mut i = 0;
-    while i < n {
+    for i in 0..n {
         digests[i] = digest_of(name(entry(s, n, b, i)));
-        i += 1;
     }
     digests
 }

@@ -8,9 +8,11 @@ ghost use Rattle.volume_unique.specs.Code.Checks.{Gathered, Digested, alone_from
 use names::same_name;
 use volume_entry::field::name;
 use volume_tree::entries::entry;
+use volume_tree::numbers::every;
 use volume_tree::search::is_child;
 
 // Whether two entries share parent and name. Names are compared only where digests and parents agree.
+#[tactic(auto, using(volume_tree::specs::Laws::Lent::entries))]
 fn are_twins(
     s: &[u8],
     n: usize,
@@ -33,12 +35,9 @@ fn are_twins(
     if parents[j] != p {
         return false;
     }
-    if is_child(s, n, b, p, j) {
-        if is_child(s, n, b, p, i) {
-            return same_name(name(entry(s, n, b, i)), name(entry(s, n, b, j)));
-        }
-    }
-    false
+    is_child(s, n, b, p, j)
+        && is_child(s, n, b, p, i)
+        && same_name(name(entry(s, n, b, i)), name(entry(s, n, b, j)))
 }
 
 // Whether no entry behind an entry shares parent and name with it.
@@ -57,12 +56,10 @@ fn is_alone(
     ensures { result ≡ alone_from (read_volume n b s.now) i }
 {
     if is_child(s, n, b, parents[i], i) {
-        let mut j = i + 1;
-        while j < n {
+        for j in i + 1..n {
             if are_twins(s, n, b, parents, digests, i, j) {
                 return false;
             }
-            j += 1;
         }
     }
     true
@@ -81,13 +78,5 @@ pub fn all_alone(
     requires digested { Digested (read_volume n b s.now) digests.now }
     ensures { result ≡ all_alone (read_volume n b s.now) }
 {
-    let mut i = 0;
-    while i < n {
-        if is_alone(s, n, b, parents, digests, i) {
-            i += 1;
-        } else {
-            return false;
-        }
-    }
-    true
+    every(n, |i| is_alone(s, n, b, parents, digests, i))
 }

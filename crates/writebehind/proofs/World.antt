@@ -106,7 +106,7 @@ there-log_slots = needs-log_slots world refl there-buffer there-volume_tree ther
 
 there-log_find : Needs-log_find world
 unfolding world
-there-log_find = needs-log_find world refl there-log_slots there-volume_tree there-returned
+there-log_find = needs-log_find world refl there-log_slots there-volume_tree
 
 there-session_losses : Needs-session_losses world
 unfolding world
@@ -154,11 +154,11 @@ there-log_take = needs-log_take world refl there-buffer there-log_compact there-
 
 there-session_renew : Needs-session_renew world
 unfolding world
-there-session_renew = needs-session_renew world refl there-log_find there-log_take there-returned there-session_admission there-session_losses there-record
+there-session_renew = needs-session_renew world refl there-log_take there-session_admission there-session_losses there-log_find there-record there-returned
 
 there-session_take : Needs-session_take world
 unfolding world
-there-session_take = needs-session_take world refl there-log_find there-log_take there-returned there-session_admission there-session_losses there-record there-buffer
+there-session_take = needs-session_take world refl there-log_take there-session_admission there-session_losses there-log_find there-record there-buffer there-returned
 
 there-log_discard : Needs-log_discard world
 unfolding world
@@ -170,7 +170,7 @@ there-volume_write = needs-volume_write world refl there-buffer there-volume_ent
 
 there-session_cut : Needs-session_cut world
 unfolding world
-there-session_cut = needs-session_cut world refl there-log_discard there-returned there-session_admission there-volume_write
+there-session_cut = needs-session_cut world refl there-log_discard there-session_admission there-volume_write there-returned
 
 there-volume : Needs-volume world
 unfolding world
@@ -210,7 +210,7 @@ there-session_fsync = needs-session_fsync world refl there-log_fsync there-retur
 
 there-session_push : Needs-session_push world
 unfolding world
-there-session_push = needs-session_push world refl there-log_find there-log_order there-log_push there-log_slots there-returned there-session_admission there-volume_tree there-record
+there-session_push = needs-session_push world refl there-log_find there-log_order there-log_push there-log_slots there-session_admission there-volume_tree there-record there-returned
 
 there-log_draft : Needs-log_draft world
 unfolding world
@@ -230,11 +230,11 @@ there-log_issue = needs-log_issue world refl there-log_draft there-record_writer
 
 there-session_forder : Needs-session_forder world
 unfolding world
-there-session_forder = needs-session_forder world refl there-log_issue there-record_valid there-returned there-session_admission there-session_change there-volume_entry there-volume_tree there-log_draft there-record_writer there-record there-buffer
+there-session_forder = needs-session_forder world refl there-log_issue there-record_valid there-session_admission there-session_change there-volume_entry there-volume_tree there-log_draft there-record_writer there-record there-buffer there-returned
 
 there-session_length : Needs-session_length world
 unfolding world
-there-session_length = needs-session_length world refl there-log_issue there-returned there-session_admission there-session_change there-log_draft there-volume_tree there-record_writer there-record there-buffer
+there-session_length = needs-session_length world refl there-log_issue there-session_admission there-session_change there-log_draft there-volume_tree there-record_writer there-record there-buffer there-returned
 
 there-session_operations : Needs-session_operations world
 unfolding world
@@ -242,7 +242,7 @@ there-session_operations = needs-session_operations world refl there-log_issue t
 
 there-session_write : Needs-session_write world
 unfolding world
-there-session_write = needs-session_write world refl there-returned there-session_admission there-session_change there-session_operations there-volume_entry there-volume_tree there-log_draft there-buffer
+there-session_write = needs-session_write world refl there-session_admission there-session_change there-session_operations there-volume_entry there-volume_tree there-log_draft there-buffer there-returned
 
 there-session_names : Needs-session_names world
 unfolding world
@@ -250,15 +250,15 @@ there-session_names = needs-session_names world refl there-names there-returned 
 
 there-session_rename : Needs-session_rename world
 unfolding world
-there-session_rename = needs-session_rename world refl there-log_issue there-returned there-session_admission there-session_change there-session_names there-volume_entry there-volume_tree there-log_draft there-record_writer there-record there-names
+there-session_rename = needs-session_rename world refl there-log_issue there-session_admission there-session_change there-session_names there-volume_entry there-volume_tree there-log_draft there-record_writer there-record there-names there-returned
 
 there-session_remove : Needs-session_remove world
 unfolding world
-there-session_remove = needs-session_remove world refl there-log_issue there-returned there-session_admission there-session_change there-session_names there-volume_entry there-volume_tree there-log_draft there-record_writer there-record
+there-session_remove = needs-session_remove world refl there-log_issue there-session_admission there-session_change there-session_names there-volume_entry there-volume_tree there-log_draft there-record_writer there-record there-returned
 
 there-session_make : Needs-session_make world
 unfolding world
-there-session_make = needs-session_make world refl there-log_issue there-returned there-session_admission there-session_change there-session_names there-volume_entry there-volume_tree there-log_draft there-record_writer there-record
+there-session_make = needs-session_make world refl there-log_issue there-session_admission there-session_change there-session_names there-volume_entry there-volume_tree there-log_draft there-record_writer there-record there-returned
 
 there-session_questions : Needs-session_questions world
 unfolding world
@@ -266,24 +266,24 @@ there-session_questions = needs-session_questions world refl there-log_dependenc
 
 there-session_read : Needs-session_read world
 unfolding world
-there-session_read = needs-session_read world refl there-returned there-session_questions there-volume_questions there-volume_tree there-volume_entry
+there-session_read = needs-session_read world refl there-session_questions there-volume_questions there-volume_tree there-volume_entry there-returned
 
 there-session_stat : Needs-session_stat world
 unfolding world
-there-session_stat = needs-session_stat world refl there-returned there-session_questions there-volume_questions there-volume_tree
+there-session_stat = needs-session_stat world refl there-session_questions there-volume_questions there-volume_tree there-returned
 
 there-session_list : Needs-session_list world
 unfolding world
-there-session_list = needs-session_list world refl there-returned there-session_questions there-volume_questions there-volume_tree
+there-session_list = needs-session_list world refl there-session_questions there-volume_questions there-volume_tree there-returned
 
 there-session_lookup : Needs-session_lookup world
 unfolding world
-there-session_lookup = needs-session_lookup world refl there-log_dependence there-returned there-session_questions there-volume_lookup there-volume_tree there-record there-buffer there-paths
+there-session_lookup = needs-session_lookup world refl there-log_dependence there-session_questions there-volume_lookup there-volume_tree there-record there-buffer there-paths there-returned
 
 there-session_mount : Needs-session_mount world
 unfolding world
-there-session_mount = needs-session_mount world refl there-buffer there-returned there-session_admission there-volume_form there-volume_tree there-volume_write there-log_form there-log_slots
+there-session_mount = needs-session_mount world refl there-buffer there-session_admission there-volume_form there-volume_tree there-volume_write there-log_form there-log_slots there-returned
 
 pub there-writebehind : Needs-writebehind world
 unfolding world
-there-writebehind = needs-writebehind world refl there-record there-record_reader there-session_cut there-session_forder there-session_fsync there-session_length there-session_list there-session_lookup there-session_make there-session_mount there-session_push there-session_read there-session_remove there-session_rename there-session_renew there-session_stat there-session_take there-session_write there-buffer there-returned
+there-writebehind = needs-writebehind world refl there-record there-record_reader there-returned there-session_cut there-session_forder there-session_fsync there-session_length there-session_list there-session_lookup there-session_make there-session_mount there-session_push there-session_read there-session_remove there-session_rename there-session_renew there-session_stat there-session_take there-session_write there-volume_questions there-buffer

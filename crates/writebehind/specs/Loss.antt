@@ -1,12 +1,10 @@
 -- Document 01, "Loss record": what the record reader answers a host of the record that a buffer's bytes begin with at a place.
 use Rattle.std.specs.Prelude.{ℕ}
-use Rattle.std.proofs.Math.Option.{Option, none, some}
+use Rattle.std.specs.Prelude.{Option, None, Some}
 use Rattle.returned.specs.Returned
 use Rattle.record.specs.Kind.{code_of}
 use Rattle.record.specs.Operation.{Record}
 use Rattle.record_reader.specs.declared.Whole.{Whole}
-use Rattle.record_reader.specs.declared.Reading.{Reading}
-use Rattle.record_reader.specs.declared.Reading.TheVariants.{Is, Bad}
 use Rattle.record_reader.specs.Answer.{whole_of}
 use Rattle.writebehind.specs.declared.loss.Loss.{Loss}
 
@@ -64,14 +62,14 @@ abbrev pub loss_in : Whole → Loss
 loss_in w = loss_with (code_of w.head.kind) w
 
 -- the number and the values of each answer of the reader
-abbrev pub loss_read : Reading → Loss
-loss_read (Is w) = loss_in w
-loss_read Bad = no_loss
+abbrev pub loss_read : Option Whole → Loss
+loss_read (Some w) = loss_in w
+loss_read None = no_loss
 
 -- the answer for the record that begins at a place, if one does
-abbrev pub reading_of : ℕ → Option Record → Reading
-reading_of at none = Bad
-reading_of at (some r) = Is (whole_of r at)
+abbrev pub reading_of : ℕ → Option Record → Option Whole
+reading_of at None = None
+reading_of at (Some r) = (Some (whole_of r at))
 
 abbrev pub loss_of : ℕ → Option Record → Loss
 loss_of at r = loss_read (reading_of at r)

@@ -7,19 +7,33 @@ ghost use Rattle.record.specs.Decode.{decode_record};
 ghost use Rattle.session.specs.Call.{geometry, buffers, issuer};
 ghost use Rattle.session.specs.Call;
 ghost use Rattle.session.specs.Step.{given, step, format, format_leaves, mount};
+ghost use Rattle.returned.specs.Refusal.{number_of};
+ghost use Rattle.volume_questions.specs.Told.{status_or0};
 ghost use Rattle.writebehind.specs.Loss.{loss_of};
 
 pub mod loss;
 
 use crate::loss::{Loss, loss_at};
-use returned::{Code, Status, Value};
+use returned::{Code, Refusal, Status, Value};
+use volume_questions::object::Stat;
+
+// What stat tells, or the refusal, as a struct of numbers.
+fn status_of(res: Result<Stat, Refusal>) -> Status
+    ensures returned { result.returned ≡ number_of res }
+    ensures told { (result.kind ∷ result.length ∷ result.usage ∷ []) ≡ status_or0 res }
+{
+    match res {
+        Ok(told) => Status::of(told.kind, told.len, told.usage),
+        Err(refusal) => Status::refused(refusal.number()),
+    }
+}
 
 // "Format makes a server volume with only a root."
 pub fn wb_format(n: u64, b: u64, m: u64, server: &mut [u8]) -> Code
     ensures returned { result.returned ≡ format (geometry n b m) server.old }
     ensures volume { server.new ≡ format_leaves (geometry n b m) server.old }
 {
-    session_mount::format(n as usize, b as usize, m as usize, server)
+    Code::from(session_mount::format(n as usize, b as usize, m as usize, server))
 }
 
 // "Mount checks the server volume, copies it to the view and begins an empty log".
@@ -27,7 +41,7 @@ pub fn wb_mount(n: u64, b: u64, m: u64, server: &[u8], view: &mut [u8], log: &mu
     ensures { given result.returned [] [] (buffers server.now view.new log.new)
         ≡ mount (geometry n b m) (buffers server.now view.old log.old) }
 {
-    session_mount::mount(n as usize, b as usize, m as usize, server, view, log)
+    Code::from(session_mount::mount(n as usize, b as usize, m as usize, server, view, log))
 }
 
 // "Lookup alone takes a path and gives an object number."
@@ -44,7 +58,7 @@ pub fn wb_lookup(
     ensures { given result.returned (result.value ∷ []) [] (buffers server.now view.now log.new)
         ≡ step (geometry n b m) (Call.lookup program path.now) (buffers server.now view.now log.old) }
 {
-    session_lookup::lookup(
+    Value::from(session_lookup::lookup(
         n as usize,
         b as usize,
         m as usize,
@@ -53,7 +67,7 @@ pub fn wb_lookup(
         log,
         program as usize,
         path,
-    )
+    ))
 }
 
 // The children of a directory, into a buffer.
@@ -71,7 +85,7 @@ pub fn wb_list(
     ensures { given result.returned (result.value ∷ []) buffer.new (buffers server.now view.now log.new)
         ≡ step (geometry n b m) (Call.list program object buffer.old) (buffers server.now view.now log.old) }
 {
-    session_list::list(
+    Value::from(session_list::list(
         n as usize,
         b as usize,
         m as usize,
@@ -81,7 +95,7 @@ pub fn wb_list(
         program as usize,
         object as usize,
         buffer,
-    )
+    ))
 }
 
 // Kind, length and usage of an object.
@@ -98,7 +112,7 @@ pub fn wb_stat(
     ensures { given result.returned (result.kind ∷ result.length ∷ result.usage ∷ []) [] (buffers server.now view.now log.new)
         ≡ step (geometry n b m) (Call.stat program object) (buffers server.now view.now log.old) }
 {
-    session_stat::stat(
+    status_of(session_stat::stat(
         n as usize,
         b as usize,
         m as usize,
@@ -107,7 +121,7 @@ pub fn wb_stat(
         log,
         program as usize,
         object as usize,
-    )
+    ))
 }
 
 // Bytes of a file, into a buffer.
@@ -126,7 +140,7 @@ pub fn wb_read(
     ensures { given result.returned (result.value ∷ []) buffer.new (buffers server.now view.now log.new)
         ≡ step (geometry n b m) (Call.read program object offset buffer.old) (buffers server.now view.now log.old) }
 {
-    session_read::read(
+    Value::from(session_read::read(
         n as usize,
         b as usize,
         m as usize,
@@ -137,7 +151,7 @@ pub fn wb_read(
         object as usize,
         offset as usize,
         buffer,
-    )
+    ))
 }
 
 // An empty file.
@@ -156,7 +170,7 @@ pub fn wb_create(
     ensures { given result.returned (result.value ∷ []) [] (buffers server.now view.new log.new)
         ≡ step (geometry n b m) (Call.create_file (issuer program) parent name.now object) (buffers server.now view.old log.old) }
 {
-    session_make::create(
+    Value::from(session_make::create(
         n as usize,
         b as usize,
         m as usize,
@@ -167,7 +181,7 @@ pub fn wb_create(
         parent as usize,
         name,
         object as usize,
-    )
+    ))
 }
 
 // An empty directory.
@@ -186,7 +200,7 @@ pub fn wb_mkdir(
     ensures { given result.returned (result.value ∷ []) [] (buffers server.now view.new log.new)
         ≡ step (geometry n b m) (Call.make_directory (issuer program) parent name.now object) (buffers server.now view.old log.old) }
 {
-    session_make::make_directory(
+    Value::from(session_make::make_directory(
         n as usize,
         b as usize,
         m as usize,
@@ -197,7 +211,7 @@ pub fn wb_mkdir(
         parent as usize,
         name,
         object as usize,
-    )
+    ))
 }
 
 // "Remove file takes only files" (document 02, K4).
@@ -215,7 +229,7 @@ pub fn wb_remove_file(
     ensures { given result.returned (result.value ∷ []) [] (buffers server.now view.new log.new)
         ≡ step (geometry n b m) (Call.remove_file (issuer program) parent name.now) (buffers server.now view.old log.old) }
 {
-    session_remove::remove_file(
+    Value::from(session_remove::remove_file(
         n as usize,
         b as usize,
         m as usize,
@@ -225,7 +239,7 @@ pub fn wb_remove_file(
         program as usize,
         parent as usize,
         name,
-    )
+    ))
 }
 
 // "remove directory only empty directories" (document 02, K4).
@@ -243,7 +257,7 @@ pub fn wb_remove_directory(
     ensures { given result.returned (result.value ∷ []) [] (buffers server.now view.new log.new)
         ≡ step (geometry n b m) (Call.remove_directory (issuer program) parent name.now) (buffers server.now view.old log.old) }
 {
-    session_remove::remove_directory(
+    Value::from(session_remove::remove_directory(
         n as usize,
         b as usize,
         m as usize,
@@ -253,7 +267,7 @@ pub fn wb_remove_directory(
         program as usize,
         parent as usize,
         name,
-    )
+    ))
 }
 
 // "Rename replaces a file by a file or an empty directory by a directory."
@@ -273,7 +287,7 @@ pub fn wb_rename(
     ensures { given result.returned (result.value ∷ []) [] (buffers server.now view.new log.new)
         ≡ step (geometry n b m) (Call.rename (issuer program) parent name.now second_parent second_name.now) (buffers server.now view.old log.old) }
 {
-    session_rename::rename(
+    Value::from(session_rename::rename(
         n as usize,
         b as usize,
         m as usize,
@@ -285,7 +299,7 @@ pub fn wb_rename(
         name,
         second_parent as usize,
         second_name,
-    )
+    ))
 }
 
 // An overwrite or an append, in one block.
@@ -304,7 +318,7 @@ pub fn wb_write(
     ensures { given result.returned (result.value ∷ []) [] (buffers server.now view.new log.new)
         ≡ step (geometry n b m) (Call.write (issuer program) object offset «data».now) (buffers server.now view.old log.old) }
 {
-    session_write::write::write(
+    Value::from(session_write::write::write(
         n as usize,
         b as usize,
         m as usize,
@@ -315,7 +329,7 @@ pub fn wb_write(
         object as usize,
         offset as usize,
         data,
-    )
+    ))
 }
 
 // "Set length zeroes what it cuts off or adds."
@@ -333,7 +347,7 @@ pub fn wb_setlen(
     ensures { given result.returned (result.value ∷ []) [] (buffers server.now view.new log.new)
         ≡ step (geometry n b m) (Call.set_length (issuer program) object length) (buffers server.now view.old log.old) }
 {
-    session_length::set_length(
+    Value::from(session_length::set_length(
         n as usize,
         b as usize,
         m as usize,
@@ -343,7 +357,7 @@ pub fn wb_setlen(
         program as usize,
         object as usize,
         length as usize,
-    )
+    ))
 }
 
 // A forder on a list of objects, "2 bytes an object".
@@ -360,7 +374,7 @@ pub fn wb_forder(
     ensures { given result.returned (result.value ∷ []) [] (buffers server.now view.now log.new)
         ≡ step (geometry n b m) (Call.forder (issuer program) list.now) (buffers server.now view.now log.old) }
 {
-    session_forder::forder(
+    Value::from(session_forder::forder(
         n as usize,
         b as usize,
         m as usize,
@@ -369,7 +383,7 @@ pub fn wb_forder(
         log,
         program as usize,
         list,
-    )
+    ))
 }
 
 // "Push sends the waiting operation of a given sequence number and frees its slot."
@@ -385,7 +399,7 @@ pub fn wb_push(
     ensures { given result.returned [] [] (buffers server.new view.now log.new)
         ≡ step (geometry n b m) (Call.push sequence) (buffers server.old view.now log.old) }
 {
-    session_push::push(
+    Code::from(session_push::push(
         n as usize,
         b as usize,
         m as usize,
@@ -393,7 +407,7 @@ pub fn wb_push(
         view,
         log,
         sequence as usize,
-    )
+    ))
 }
 
 // "Fsync names an object and the sends k that the link still carries."
@@ -429,7 +443,7 @@ pub fn wb_cut(n: u64, b: u64, m: u64, server: &[u8], view: &mut [u8], log: &mut 
     ensures { given result.returned [] [] (buffers server.now view.new log.new)
         ≡ step (geometry n b m) (Call.cut) (buffers server.now view.old log.old) }
 {
-    session_cut::cut(n as usize, b as usize, m as usize, server, view, log)
+    Code::from(session_cut::cut(n as usize, b as usize, m as usize, server, view, log))
 }
 
 // "Take writes the earliest loss of a program and frees its slot."
@@ -446,7 +460,7 @@ pub fn wb_take(
     ensures { given result.returned (result.value ∷ []) buffer.new (buffers server.now view.now log.new)
         ≡ step (geometry n b m) (Call.take program buffer.old) (buffers server.now view.now log.old) }
 {
-    session_take::take(
+    Value::from(session_take::take(
         n as usize,
         b as usize,
         m as usize,
@@ -455,7 +469,7 @@ pub fn wb_take(
         log,
         program as usize,
         buffer,
-    )
+    ))
 }
 
 // "Renew clears its mark."
@@ -471,7 +485,7 @@ pub fn wb_renew(
     ensures { given result.returned [] [] (buffers server.now view.now log.new)
         ≡ step (geometry n b m) (Call.renew program) (buffers server.now view.now log.old) }
 {
-    session_renew::renew(
+    Code::from(session_renew::renew(
         n as usize,
         b as usize,
         m as usize,
@@ -479,7 +493,7 @@ pub fn wb_renew(
         view,
         log,
         program as usize,
-    )
+    ))
 }
 
 // The record reader, at any place of any buffer.

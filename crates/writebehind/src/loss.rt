@@ -5,8 +5,8 @@ ghost use Rattle.record_reader.specs.declared.Whole.{Whole};
 ghost use Rattle.writebehind.specs.Loss.{loss_in, no_loss, loss_of};
 
 use buffer::span::Span;
-use record_reader::{Reading, Whole, read_record};
-use returned::BAD_RECORD;
+use record_reader::{Whole, read_record};
+use returned::Refusal;
 
 // A loss record: the returned number, the place after it, then its fields. Names, data and list are told by where they begin in
 // the buffer and how many bytes they have. A field that the record does not have is 0.
@@ -39,7 +39,7 @@ fn no_loss() -> Loss
     ensures { result ≡ no_loss }
 {
     Loss {
-        returned: BAD_RECORD as u64,
+        returned: Refusal::BadRecord.number() as u64,
         next: 0,
         sequence: 0,
         program: 0,
@@ -103,7 +103,7 @@ pub fn loss_at(at: usize, buffer: &[u8]) -> Loss
     ensures { result ≡ loss_of at (decode_record (drop at buffer.now)) }
 {
     match read_record(buffer, at) {
-        Reading::Is(w) => loss_in(w),
-        Reading::Bad => no_loss(),
+        Some(w) => loss_in(w),
+        None => no_loss(),
     }
 }

@@ -86,3 +86,6 @@ number-back w at s h byte =
     let r = take w (drop at s) in
     let l : length r ≡ w = length-take-le w (drop at s) (rw (length-drop at s) (omega arith)) in
     ap (λ (n : ℕ). bytes n (numeral r)) (sym l) ∙ bytes-numeral r (bytes-part s w at byte)
+
+-- what a number at a place is, for the functions that read one
+pub ruleset numerals = (numeral-two, numeral-four)

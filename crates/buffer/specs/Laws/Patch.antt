@@ -69,3 +69,6 @@ put_then {v} {w} {a} {b} {c} {at} {n} {m} p q =
 -- the place after a put of known length
 pub put-end : (w : ℕ) {v a b : List ℕ} {at n : ℕ} → Put v at a b n → length v ≡ w → n ≡ at + w
 put-end w p e = rw e at p.ends
+
+-- for the functions that put
+pub ruleset puts = (put-set, paste-on)

@@ -51,3 +51,6 @@ stretch-past s start n h = rw (drop_of_length-le s {i = start} h) (sym (take-nil
 pub stretch-rest : (s : List ℕ) (start n : ℕ) → length s - start ≤ n → take (length s - start) (drop start s) ≡ take n (drop start s)
 stretch-rest s start n h =
     take_all (length s - start) (drop start s) (rw (length-drop start s) (omega arith)) ∙ sym (take_all n (drop start s) (rw (length-drop start s) h))
+
+-- for the function that cuts out a stretch
+pub ruleset stretches = (stretch-past, stretch-rest)

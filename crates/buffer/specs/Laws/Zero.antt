@@ -46,3 +46,6 @@ zeros-seen s i seen h =
     ap (λ (t : Bool). t && zeros (drop (i + 1) s)) (or-zero seen (get_or s i 0))
     ∙ and_assoc (eqb seen 0) (eqb (get_or s i 0) 0) (zeros (drop (i + 1) s))
     ∙ ap (λ (t : Bool). eqb seen 0 && t) (sym (zeros-step s i h))
+
+-- for the function that tests bytes
+pub ruleset seen = zeros-seen

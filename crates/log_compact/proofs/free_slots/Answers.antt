@@ -1,7 +1,7 @@
 -- `log_compact::free_slots` meets its contract. The loop's invariant: of the slots read those that are kept stand in front, and the
--- others are where they were. The measure is how many slots are left to read. Assumes nothing.
+-- others are where they were. Assumes nothing.
 use Prim.Native.Nat.{◌≤◌, ◌<◌}
-use mathlib.Core.Path.{◌≡◌, ◌∙◌}
+use mathlib.Core.Path.{◌≡◌}
 use lib.ListN.{length, get_or}
 use native.Mathlib.Omega.{arith}
 use Rattle.log_rules.specs.Code.Slots.{slots_in}

@@ -1,5 +1,5 @@
 -- `log_compact::move_down` meets its contract. The loop's invariant: the bytes behind the gap are moved down, up to the place that is
--- written next, and the others are as they were. The measure is what is left up to the tail, which is cleared then. Assumes nothing.
+-- written next, and the others are as they were. Assumes nothing.
 use Prim.Native.Nat.{◌+◌, ◌-◌}
 use mathlib.Core.Path.{◌≡◌, refl}
 use native.Mathlib.Omega.{arith}
@@ -12,20 +12,16 @@ pub loop-i-init : goal.loop-i-init
 loop-i-init c =
     let a = c.args in
     let z : a.at - a.at ≡ 0 = omega arith in
-    (omega arith, omega arith, rw z (paste-zero a.s.now a.at (drop (a.at + a.len) a.s.now)), refl)
+    (rw z (paste-zero a.s.now a.at (drop (a.at + a.len) a.s.now)), refl)
 
 pub loop-i-preserved : goal.loop-i-preserved
 loop-i-preserved c =
-    let a = c.args in (
-      omega arith,
-      omega arith,
-      gap-on a.s.now a.at a.len c.loop-i.s c.loop-i.i c.loop-i.invariant.2 (omega arith) (omega arith),
-      simp length-set c.loop-i.invariant.3,
-    )
+    let a = c.args in
+    (gap-on a.s.now a.at a.len c.loop-i.s c.loop-i.i c.loop-i.invariant.0 (omega arith) (omega arith), simp length-set c.loop-i.invariant.1)
 
 pub returns : goal.returns
 returns c =
     let a = c.args in
     let e : c.loop-i.i ≡ length a.s.now - a.len = omega arith in
     moved_down a.s.now a.at a.len c.loop-i.s (length a.s.now - a.len) c.clear.new.s
-    (rw e at c.loop-i.invariant.2) c.loop-i.invariant.3 (omega arith) (omega arith) c.clear.ensures
+    (rw e at c.loop-i.invariant.0) c.loop-i.invariant.1 (omega arith) (omega arith) c.clear.ensures

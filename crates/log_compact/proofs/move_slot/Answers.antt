@@ -1,5 +1,5 @@
 -- `log_compact::move_slot` meets its contract. The loop's invariant: the first i bytes of the slot are moved, and the others are as they
--- were. The measure is what is left of the slot. Assumes nothing.
+-- were. Assumes nothing.
 use Prim.Native.Nat.{◌*◌}
 use mathlib.Core.Path.{refl}
 use native.Mathlib.Omega.{arith}
@@ -17,20 +17,16 @@ returns-then-to-from c =
 pub loop-i-init : goal.loop-i-init
 loop-i-init c =
     let a = c.args in
-    (omega arith, paste-zero a.s.now (a.to * slot_bytes) (drop (a.from * slot_bytes) a.s.now), refl)
+    (paste-zero a.s.now (a.to * slot_bytes) (drop (a.from * slot_bytes) a.s.now), refl)
 
 pub loop-i-preserved : goal.loop-i-preserved
 loop-i-preserved c =
     let a = c.args in (
-      omega arith,
-      move-on a.s.now (a.to * slot_bytes) (a.from * slot_bytes) c.loop-i.s c.loop-i.i c.loop-i.invariant.1 (omega arith) (omega arith),
-      simp length-set c.loop-i.invariant.2,
+      move-on a.s.now (a.to * slot_bytes) (a.from * slot_bytes) c.loop-i.s c.loop-i.i c.loop-i.invariant.0 (omega arith) (omega arith),
+      simp length-set c.loop-i.invariant.1,
     )
-
-pub shape_of-s : goal.shape_of-s
-shape_of-s c = c.loop-i.invariant.2
 
 pub returns : goal.returns
 returns c =
     let a = c.args in
-    slot-moved a.s.now a.from a.to c.loop-i.s c.loop-i.i c.loop-i.invariant.1 (omega arith) (omega arith)
+    slot-moved a.s.now a.from a.to c.loop-i.s c.loop-i.i c.loop-i.invariant.0 (omega arith) (omega arith)

@@ -14,6 +14,3 @@ use Rattle.log_dependence.proofs.note_slots.Given as goal
 abbrev pub invariant-loop-i : goal.invariant-loop-i
 invariant-loop-i l =
     (l.i ≤ length (slots_in l.initial.s)) × ((ops : List ℕ) → Holds l.initial.reached ops → Holds l.reached (reach ops (drop l.i (slots_in l.initial.s))) × (l.s ≡ encode_slots (partly l.program ops (slots_in l.initial.s) l.i)))
-
-abbrev pub decreases-loop-i : goal.decreases-loop-i
-decreases-loop-i l = l.i

@@ -12,7 +12,7 @@ discard_slot-requires c =
     let d = c.loop-i.invariant in
     record {
       slotted = done-slotted c.args.s.now c.requires d;
-      i_in_bounds = omega (arith, d.within, c.loop-i-test.true, done-count c.args.s.now c.requires d);
+      i_in_bounds = omega (arith, d.within, done-count c.args.s.now c.requires d);
     }
 
 pub union_of-found-requires : goal.union_of-found-requires

@@ -6,6 +6,3 @@ use Rattle.log_discard.proofs.discard_slots.Given as goal
 
 abbrev pub invariant-loop-i : goal.invariant-loop-i
 invariant-loop-i l = DoneFrom l.i (slots_in l.initial.s) l.s l.found
-
-abbrev pub decreases-loop-i : goal.decreases-loop-i
-decreases-loop-i l = l.i

@@ -16,8 +16,8 @@ pub apply-requires : goal.apply-requires
 apply-requires c =
     let a = c.args in
     let p = c.requires.begins in
-    let q = c.in-Is.ensures.value in
-    let w = c.in-Is.w in record {
+    let q = c.in-Some.ensures.value in
+    let w = c.in-Some.w in record {
       formed = c.requires.formed;
       fitting = held-fitting a.rec.now p.0 p.1.rest p.2.sound p.1.bytes w q a.n a.b p.2.fit;
       w_value = ap (λ (r : Record). applies (read_volume a.n a.b a.view.now) r.operation) (held_found a.rec.now p.0 p.1.rest p.2.sound p.1.bytes w q) ∙ p.2.ready;
@@ -26,6 +26,6 @@ apply-requires c =
 pub returns : goal.returns
 returns c r g i =
     let a = c.args in
-    let q = c.in-Is.ensures.value in
+    let q = c.in-Some.ensures.value in
     c.apply.ensures
-    ∙ ap (λ (r : Record). encode_volume a.b (apply (read_volume a.n a.b a.view.now) r.operation)) (held_found a.rec.now r g.rest i.sound g.bytes c.in-Is.w q)
+    ∙ ap (λ (r : Record). encode_volume a.b (apply (read_volume a.n a.b a.view.now) r.operation)) (held_found a.rec.now r g.rest i.sound g.bytes c.in-Some.w q)

@@ -1,31 +1,21 @@
--- `log_find::waiting_at` meets its contract. The loop's invariant: no slot passed holds the waiting operation.
--- Assumes nothing.
+-- `log_find::waiting_at` meets its contract: the first slot that holds the waiting operation is sought. Assumes nothing.
+use Prim.Native.Nat.{◌<◌}
 use native.Mathlib.Omega.{arith}
-use borrow.Author.Count.{below_none}
+use borrow.Author.Rules.{rules}
+use mathlib.Core.Path.{sym}
+use lib.ListN.{length}
 use Rattle.log_rules.specs.Change.{is_sequence}
-use Rattle.volume_tree.specs.Laws.Answer.{settled}
+use Rattle.log_rules.specs.Code.Slots.{slots_in}
 use Rattle.log_slots.specs.Laws.Slot.{slots-count}
-use Rattle.log_find.specs.Laws.Found.{found_here, found-next, found-end}
 use Rattle.log_find.proofs.waiting_at.Goals as goal
 
-pub loop-i-init : goal.loop-i-init
-loop-i-init c = (omega arith, below_none _)
-
-pub is_sequence-requires : goal.is_sequence-requires
-is_sequence-requires c =
-    record { slotted = c.requires; i_in_bounds = omega (arith, slots-count c.args.s.now c.requires) }
-
-pub returns-then-is_sequence : goal.returns-then-is_sequence
-returns-then-is_sequence c =
-    let a = c.args in
-    found_here (is_sequence a.q) a.s.now c.requires c.loop-i.i c.loop-i.invariant.1 (omega arith) (settled c.is_sequence.ensures c.if-is_sequence.true)
-
-pub loop-i-preserved : goal.loop-i-preserved
-loop-i-preserved c =
-    let a = c.args in
-    (omega arith, found-next (is_sequence a.q) a.s.now c.requires c.loop-i.i c.loop-i.invariant.1 (settled c.is_sequence.ensures c.if-is_sequence.false))
+pub first_slot-requires : goal.first_slot-requires
+first_slot-requires c =
+    λ i h.
+    let k : i < length (slots_in c.args.s.now) = omega (arith, slots-count c.args.s.now c.requires) in
+    search rules
 
 pub returns : goal.returns
 returns c =
     let a = c.args in
-    found-end (is_sequence a.q) a.s.now c.requires c.loop-i.i c.loop-i.invariant.1 c.loop-i-test.false
+    c.first_slot.ensures (is_sequence a.q) (slots_in a.s.now) (sym (slots-count a.s.now c.requires)) (λ i r h k. search rules)

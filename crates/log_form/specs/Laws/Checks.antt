@@ -3,7 +3,7 @@ use Rattle.std.specs.Prelude.{ℕ, zero, suc, ◌+◌, ◌*◌, ◌-◌, ◌≤�
 use Rattle.std.proofs.Common.{arith, sym, ap, ap₂, ◌∙◌, append_assoc, length-append, length-drop, take-append-drop, length-take-le, take_at, drop_at, get_or-take, get_or-drop, leb-true, le-leb, eqb-true}
 use Rattle.std.proofs.Math.Bool.{and-eq-true_iff}
 use Rattle.std.proofs.lemmas.Bool.{false≢true, eqb-false}
-use Rattle.std.proofs.Math.Option.{Option, none, some}
+use Rattle.std.specs.Prelude.{Option, None, Some}
 use Rattle.buffer.specs.Decoded.{is_some}
 use Rattle.buffer.specs.Laws.Test.{same_test}
 use Rattle.buffer.specs.Numeral.{Bytes}
@@ -16,9 +16,7 @@ use Rattle.log_rules.specs.Stored.{head_bytes, slot_bytes, log_bytes, encode_slo
 use Rattle.log_rules.proofs.Laws.Slot.{and_both, slots-inv, slots-of, formed-inv, formed-of}
 use Rattle.log_rules.proofs.Laws.Head.{behind-head}
 use Rattle.log_rules.proofs.Laws.Stored.{length-slot, read-log, decode-encode, encode-decode}
-use Rattle.log_form.specs.declared.slot.SlotForm.{SlotForm}
-use Rattle.log_form.specs.declared.slot.SlotForm.TheVariants.{Is, Bad}
-use Rattle.log_form.specs.Code.Checks.{slot_form, may_follow, slots_formed, log_formed}
+use Rattle.log_form.specs.Code.Checks.{used_slot, slot_form, may_follow, slots_formed, log_formed}
 use Rattle.log_form.specs.Laws.Head.{head-back, head-good}
 use Rattle.log_form.specs.Laws.Slot.{Used, form-used, slot-first, used-form}
 use Rattle.log_form.specs.Laws.Order.{follows-inv, follows_of, behind, behind-inv, behind-of, behind-rising, rising-all}
@@ -90,9 +88,9 @@ module _ (n b next m last : ℕ) (waits : Bool) (s : List ℕ) (size : length s 
   first-held : slots_formed n b next (suc m) last waits s ≡ true → Held n b next (suc m) last waits s
   first-held h = first (eqb (get_or s 0 0) 0) refl
     where
-      form : (get_or s 0 0 ≡ 0 → ⊥) → (x : SlotForm) → slot_form n b (take slot_bytes s) ≡ x → Held n b next (suc m) last waits s
-      form z Bad e = absurd (false≢true (sym (from-bad n b next m last waits s z e) ∙ h))
-      form z (Is q w) e =
+      form : (get_or s 0 0 ≡ 0 → ⊥) → (x : Option (ℕ × Bool)) → slot_form n b (take slot_bytes s) ≡ x → Held n b next (suc m) last waits s
+      form z None e = absurd (false≢true (sym (from-bad n b next m last waits s z e) ∙ h))
+      form z (Some (q, w)) e =
           let u = form-used n b (take slot_bytes s) (length-take-le slot_bytes s (omega arith)) (bytes-part s slot_bytes 0 byte) q w e in
           used-held q w u (sym (from-used n b next m last waits s z q w e) ∙ h)
 
@@ -138,7 +136,7 @@ held-slots n b next (suc m) last waits (t ∷ l) h g o s e byte =
     let whole : encode_slot t ++ rest ≡ s = sym (padded-slots m t l size) ∙ e in
     let first : encode_slot t ≡ take slot_bytes s = sym (take_at (encode_slot t) rest slot_bytes size) ∙ ap (take slot_bytes) whole in
     let others : rest ≡ drop slot_bytes s = sym (drop_at (encode_slot t) rest slot_bytes size) ∙ ap (drop slot_bytes) whole in
-    let form : slot_form n b (take slot_bytes s) ≡ Is q w =
+    let form : slot_form n b (take slot_bytes s) ≡ used_slot q w =
     ap (slot_form n b) (sym first) ∙ used-form n b t x.0 (rw first (bytes-part s slot_bytes 0 byte)) in
     let state : state_number t.state ≡ get_or s 0 0 = sym (slot-first t) ∙ ap (λ (r : List ℕ). get_or r 0 0) first ∙ get_or-take slot_bytes s 0 0 (omega arith) in
     from-used n b next m last waits s (λ z. state-used t.state (state ∙ z)) q w form
@@ -184,8 +182,8 @@ checks-complete : (n b m : ℕ) (s : List ℕ) → Bytes s → is_some (decode_l
 checks-complete n b m s byte h = go (decode_log n b m s) refl h
   where
     go : (x : Option Log) → decode_log n b m s ≡ x → is_some x ≡ true → log_formed n b m s ≡ true
-    go none e t = absurd (false≢true t)
-    go (some l) e t =
+    go None e t = absurd (false≢true t)
+    go (Some l) e t =
         let d = encode-decode n b m s l e in
         rw d.1 at (log-checks n b m l d.0 (rw d.1 byte))
 

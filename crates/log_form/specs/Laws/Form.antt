@@ -3,7 +3,7 @@ use Rattle.std.specs.Prelude.{ℕ, ◌≤◌, ◌≡◌, refl, true, ◌&&◌, L
 use Rattle.std.proofs.Common.{sym, ap, ◌∙◌, leb-true, eqb-true}
 use Rattle.std.proofs.Math.Bool.{and-eq-true_iff}
 use Rattle.std.proofs.lemmas.Bool.{false≢true}
-use Rattle.std.proofs.Math.Option.{Option, none, some}
+use Rattle.std.specs.Prelude.{Option, None, Some}
 use Rattle.buffer.specs.Decoded.{is_some}
 use Rattle.log_rules.specs.Slot.{Log, well_formed_log}
 use Rattle.log_rules.specs.Stored.{log_bytes, encode_log, read_log, decode_log, lent_log, formed_log}
@@ -49,8 +49,8 @@ formed-logged n b m s h =
     go (lent-inv n b m s x.0) (decode_log n b m s) refl x.1
   where
     go : Lent n b m s → (x : Option Log) → decode_log n b m s ≡ x → is_some x ≡ true → Logged n b m s
-    go f none e t = absurd (false≢true t)
-    go f (some l) e t =
+    go f None e t = absurd (false≢true t)
+    go f (Some l) e t =
         let d = encode-decode n b m s l e in
         let back : read_log m s ≡ l = ap (read_log m) (sym d.1) ∙ read-log n b m l d.0 in
         record {

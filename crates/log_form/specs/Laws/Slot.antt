@@ -1,5 +1,6 @@
 -- The test of one slot's bytes passes for the bytes of the good slots, and for no others. Assumes nothing.
-use Rattle.std.specs.Prelude.{ℕ, ◌+◌, ◌-◌, ◌^◌, ◌≤◌, ◌<◌, Bool, ◌&&◌, ◌||◌, get_or, take, drop}
+use Rattle.std.proofs.lemmas.Option.{some_pair_parts}
+use Rattle.std.specs.Prelude.{ℕ, ◌+◌, ◌-◌, ◌^◌, ◌≤◌, ◌<◌, Bool, ◌&&◌, ◌||◌, get_or, take, drop, Option, None, Some}
 use Rattle.std.proofs.Common.{arith, ◌∙◌, length-append, take-append-drop, zero-add, take_all, take-suc, take-add, drop-drop, eqb-true}
 use Rattle.std.proofs.Math.Path.{◌≡◌, refl, sym, ap}
 use Rattle.std.proofs.Math.Bool.{true, false, cond, and-eq-true_iff}
@@ -14,8 +15,6 @@ use Rattle.buffer.specs.Laws.Zero.{zeros-replicate, replicate-zeros}
 use Rattle.record.specs.Operation.{Record}
 use Rattle.record.specs.Fields.{encode, valid, fits}
 use Rattle.record_reader.specs.declared.Whole.{Whole}
-use Rattle.record_reader.specs.declared.Reading.{Reading}
-use Rattle.record_reader.specs.declared.Reading.TheVariants.{Is as RecordIs, Bad as NoRecord}
 use Rattle.record_reader.specs.Answer.{whole_of}
 use Rattle.record_reader.specs.Code.Reader.{record_at}
 use Rattle.record_reader.specs.Code.Fit.{fits_whole, fits_decoded}
@@ -28,8 +27,7 @@ use Rattle.log_rules.specs.Slot.{State, waiting, lost, state_number, Slot, with_
 use Rattle.log_rules.specs.Stored.{slot_bytes, dependents_at, record_start, record_bytes, encode_front, encode_slot, record_part}
 use Rattle.log_rules.proofs.Laws.Stored.{record-held}
 use Rattle.log_rules.proofs.Laws.Slot.{GoodSlot}
-use Rattle.log_form.specs.declared.slot.SlotForm.TheVariants.{Is, Bad}
-use Rattle.log_form.specs.Code.Checks.{front_formed, form_by, slot_form}
+use Rattle.log_form.specs.Code.Checks.{used_slot, front_formed, form_by, slot_form}
 
 -- the dependents that a slot's bytes tell of
 abbrev dependents_in : List ℕ → ℕ
@@ -86,7 +84,7 @@ slot-back e size byte t state blank dep rest =
     (λ i. front i ++ (rest ∙ part) i) ∙ take-append-drop record_start e
 
 -- The place after a record that the reader answers lies in the bytes.
-pub answered-within : (s : List ℕ) → Bytes s → (at : ℕ) (w : Whole) → at ≤ length s → record_at s at ≡ RecordIs w → w.next.at ≤ length s
+pub answered-within : (s : List ℕ) → Bytes s → (at : ℕ) (w : Whole) → at ≤ length s → record_at s at ≡ Some w → w.next.at ≤ length s
 answered-within s byte at w h e =
     let f = record-sound s byte at w e in
     let l : length (drop at s) ≡ length (encode f.found) + length (drop w.next.at s) =
@@ -94,7 +92,7 @@ answered-within s byte at w h e =
     omega (arith, f.spans.after, length-drop at s)
 
 -- A record that is answered fits exactly if what was answered of it does.
-found-fits : (n b : ℕ) (s : List ℕ) → Bytes s → (at : ℕ) (w : Whole) (r : Record) (rest : List ℕ) → record_at s at ≡ RecordIs w → valid r ≡ true
+found-fits : (n b : ℕ) (s : List ℕ) → Bytes s → (at : ℕ) (w : Whole) (r : Record) (rest : List ℕ) → record_at s at ≡ Some w → valid r ≡ true
     → drop at s ≡ encode r ++ rest → fits n b r ≡ fits_whole n b s w
 found-fits n b s byte at w r rest e good begins =
     sym (ap (fits_decoded n b) (decode-encode s at r rest good begins)) ∙ fits_read s byte at n b w e
@@ -115,7 +113,7 @@ module _ (n b : ℕ) (e : List ℕ) (size : length e ≡ slot_bytes) (byte : Byt
   part_bytes = bytes-part e record_bytes record_start byte
 
   -- A front that passes, a record that fits, and zeros make a good slot.
-  parts-used : Front e → (w : Whole) → record_at part 0 ≡ RecordIs w → fits_whole n b part w ≡ true → zeros (drop w.next.at part) ≡ true
+  parts-used : Front e → (w : Whole) → record_at part 0 ≡ Some w → fits_whole n b part w ≡ true → zeros (drop w.next.at part) ≡ true
       → Used n b e w.head.sequence (eqb (get_or e 0 0) 1)
   unfolding whole_of
   parts-used f w read fit blank =
@@ -142,24 +140,25 @@ module _ (n b : ℕ) (e : List ℕ) (size : length e ≡ slot_bytes) (byte : Byt
       }
 
   -- Bytes that pass the test of a slot are those of a good one, whose sequence number and state are told.
-  pub form-used : (q : ℕ) (w : Bool) → slot_form n b e ≡ Is q w → Used n b e q w
+  pub form-used : (q : ℕ) (w : Bool) → slot_form n b e ≡ used_slot q w → Used n b e q w
   unfolding slot_form
   form-used q w h = front (front_formed e) refl h
     where
-      tests : Front e → (x : Whole) → record_at part 0 ≡ RecordIs x → (t : Bool) → (fits_whole n b part x && zeros (drop x.next.at part)) ≡ t
-          → cond t (Is x.head.sequence (eqb (get_or e 0 0) 1)) Bad ≡ Is q w → Used n b e q w
+      tests : Front e → (x : Whole) → record_at part 0 ≡ Some x → (t : Bool) → (fits_whole n b part x && zeros (drop x.next.at part)) ≡ t
+          → cond t (used_slot x.head.sequence (eqb (get_or e 0 0) 1)) None ≡ used_slot q w → Used n b e q w
       tests f x read true p d =
           let y = (and-eq-true_iff (fits_whole n b part x) (zeros (drop x.next.at part))).0 p in
-          let a : x.head.sequence ≡ q = cc in
-          let c : eqb (get_or e 0 0) 1 ≡ w = cc in
+          let h = some_pair_parts x.head.sequence q (eqb (get_or e 0 0) 1) w d in
+          let a : x.head.sequence ≡ q = h.0 in
+          let c : eqb (get_or e 0 0) 1 ≡ w = h.1 in
           rw (← a, ← c) (parts-used f x read y.0 y.1)
       tests f x read false p d = let z : ◌≡◌ {A = ℕ} 0 1 = cc in absurd (omega arith)
 
-      reading : Front e → (x : Reading) → record_at part 0 ≡ x → form_by n b (eqb (get_or e 0 0) 1) part x ≡ Is q w → Used n b e q w
-      reading f (RecordIs x) read d = tests f x read (fits_whole n b part x && zeros (drop x.next.at part)) refl d
-      reading f NoRecord read d = let z : ◌≡◌ {A = ℕ} 0 1 = cc in absurd (omega arith)
+      reading : Front e → (x : Option Whole) → record_at part 0 ≡ x → form_by n b (eqb (get_or e 0 0) 1) part x ≡ used_slot q w → Used n b e q w
+      reading f (Some x) read d = tests f x read (fits_whole n b part x && zeros (drop x.next.at part)) refl d
+      reading f None read d = let z : ◌≡◌ {A = ℕ} 0 1 = cc in absurd (omega arith)
 
-      front : (t : Bool) → front_formed e ≡ t → cond t (form_by n b (eqb (get_or e 0 0) 1) part (record_at part 0)) Bad ≡ Is q w → Used n b e q w
+      front : (t : Bool) → front_formed e ≡ t → cond t (form_by n b (eqb (get_or e 0 0) 1) part (record_at part 0)) None ≡ used_slot q w → Used n b e q w
       front true p d = reading (front-inv e p) (record_at part 0) refl d
       front false p d = let z : ◌≡◌ {A = ℕ} 0 1 = cc in absurd (omega arith)
 
@@ -183,7 +182,7 @@ slot-first s = go s.state
     go lost = refl
 
 -- The bytes of a good slot pass the test, which tells its sequence number and whether it waits.
-pub used-form : (n b : ℕ) (s : Slot) → GoodSlot n b s → Bytes (encode_slot s) → slot_form n b (encode_slot s) ≡ Is (sequence_of s) (is_waiting s)
+pub used-form : (n b : ℕ) (s : Slot) → GoodSlot n b s → Bytes (encode_slot s) → slot_form n b (encode_slot s) ≡ used_slot (sequence_of s) (is_waiting s)
 unfolding slot_form whole_of
 used-form n b s g byte =
     let e = encode_slot s in
@@ -193,11 +192,11 @@ used-form n b s g byte =
     let w = whole_of r 0 in
     let held : part ≡ encode r ++ z = record-held s g.sound in
     let byte' = bytes-part e record_bytes record_start byte in
-    let read : record_at part 0 ≡ RecordIs w = record-complete part 0 r z g.sound held in
+    let read : record_at part 0 ≡ Some w = record-complete part 0 r z g.sound held in
     let fit : fits_whole n b part w ≡ true = sym (found-fits n b part byte' 0 w r z read g.sound held) ∙ g.fit in
     let behind : drop (0 + length (encode r)) part ≡ z = ap (λ (k : ℕ). drop k part) (zero-add (length (encode r))) ∙ ap (drop (length (encode r))) held ∙ drop-append_seam (encode r) z in
     let blank : zeros (drop w.next.at part) ≡ true = ap zeros behind ∙ replicate-zeros (record_bytes - length (encode r)) in
-    ap (λ (t : Bool). cond t (form_by n b (eqb (get_or e 0 0) 1) part (record_at part 0)) Bad) (front-good s g.none-if-lost)
+    ap (λ (t : Bool). cond t (form_by n b (eqb (get_or e 0 0) 1) part (record_at part 0)) None) (front-good s g.none-if-lost)
     ∙ ap (form_by n b (eqb (get_or e 0 0) 1) part) read
-    ∙ ap (λ (t : Bool). cond t (Is r.sequence (eqb (get_or e 0 0) 1)) Bad) ((and-eq-true_iff _ _).1 (fit, blank))
-    ∙ ap (λ (v : ℕ). Is r.sequence (eqb v 1)) (slot-first s)
+    ∙ ap (λ (t : Bool). cond t (used_slot r.sequence (eqb (get_or e 0 0) 1)) None) ((and-eq-true_iff _ _).1 (fit, blank))
+    ∙ ap (λ (v : ℕ). used_slot r.sequence (eqb v 1)) (slot-first s)

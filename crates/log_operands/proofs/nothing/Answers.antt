@@ -6,4 +6,4 @@ use Rattle.log_operands.proofs.nothing.Goals as goal
 
 pub returns : goal.returns
 returns c =
-    record { few = omega arith; small = small-fields _ (omega arith) (omega arith) (omega arith) (omega arith); listed = unlisted c.args.rec.now; near = omega arith }
+    rw c.first.ensures (record { few = omega arith; small = small-fields _ (omega arith) (omega arith) (omega arith) (omega arith); listed = unlisted c.args.rec.now; near = omega arith })

@@ -2,6 +2,7 @@
 -- Assumes nothing.
 use native.Mathlib.Omega.{arith}
 use mathlib.Core.Path.{refl, sym, ◌∙◌}
+use Rattle.std.proofs.Common.{inl, inr}
 use Rattle.record.specs.Operation.{operands}
 use Rattle.buffer.specs.Code.Span.{span}
 use Rattle.record.specs.Fields.{objects_of}
@@ -20,21 +21,10 @@ pub returns-in-CreateFile : goal.returns-in-CreateFile
 unfolding operands objects_of
 returns-in-CreateFile c =
     let a = c.args in
-    let t = plain-told a.rec.now a.objects a.range c.requires a.head 2 (span 0 0) c.first.result (omega arith) (unlisted a.rec.now) c.first.ensures (λ n. rw c.in-CreateFile.is (record { objects = refl; stretch = refl })) in
-    record { told = t.0; sized = t.1 }
-
-pub returns-in-MakeDirectory : goal.returns-in-MakeDirectory
-unfolding operands objects_of
-returns-in-MakeDirectory c =
-    let a = c.args in
-    let t = plain-told a.rec.now a.objects a.range c.requires a.head 2 (span 0 0) c.first-in-MakeDirectory.result (omega arith) (unlisted a.rec.now) c.first-in-MakeDirectory.ensures (λ n. rw c.in-MakeDirectory.is (record { objects = refl; stretch = refl })) in
-    record { told = t.0; sized = t.1 }
-
-pub returns-in-Remove : goal.returns-in-Remove
-unfolding operands objects_of
-returns-in-Remove c =
-    let a = c.args in
-    let t = plain-told a.rec.now a.objects a.range c.requires a.head 2 (span 0 0) c.first-in-Remove.result (omega arith) (unlisted a.rec.now) c.first-in-Remove.ensures (λ n. rw c.in-Remove.is (record { objects = refl; stretch = refl })) in
+    let t = plain-told a.rec.now a.objects a.range c.requires a.head 2 (span 0 0) c.first.result (omega arith) (unlisted a.rec.now) c.first.ensures (λ n. elim c.in-CreateFile.is [
+      | inl e ↦ rw e (record { objects = refl; stretch = refl })
+      | inr k ↦ elim k [ inl e ↦ rw e (record { objects = refl; stretch = refl }) | inr e ↦ rw e (record { objects = refl; stretch = refl }) ]
+    ]) in
     record { told = t.0; sized = t.1 }
 
 pub returns-else-stands : goal.returns-else-stands
@@ -49,22 +39,18 @@ pub returns-in-Overwrite : goal.returns-in-Overwrite
 unfolding operands objects_of
 returns-in-Overwrite c =
     record {
-      told = λ n. rw c.in-Overwrite.is (record { objects = refl; stretch = (refl, refl, sym c.requires.whole) });
-      sized = record { few = omega arith; small = small-fields c.args.objects c.requires.object c.requires.parent c.requires.second c.requires.displaced; listed = unlisted c.args.rec.now; near = omega arith };
+      told = λ n. rw (c.first-in-Overwrite.ensures, c.in-Overwrite.is) (record { objects = refl; stretch = (refl, refl, sym c.requires.whole) });
+      sized = rw c.first-in-Overwrite.ensures (record { few = omega arith; small = small-fields c.args.objects c.requires.object c.requires.parent c.requires.second c.requires.displaced; listed = unlisted c.args.rec.now; near = omega arith });
     }
 
 pub returns-in-Append : goal.returns-in-Append
 unfolding operands objects_of
 returns-in-Append c =
     let a = c.args in
-    let t = plain-told a.rec.now a.objects a.range c.requires a.head 1 (span 0 0) c.first-in-Append.result (omega arith) (unlisted a.rec.now) c.first-in-Append.ensures (λ n. rw c.in-Append.is (record { objects = refl; stretch = refl })) in
-    record { told = t.0; sized = t.1 }
-
-pub returns-in-SetLength : goal.returns-in-SetLength
-unfolding operands objects_of
-returns-in-SetLength c =
-    let a = c.args in
-    let t = plain-told a.rec.now a.objects a.range c.requires a.head 1 (span 0 0) c.first-in-SetLength.result (omega arith) (unlisted a.rec.now) c.first-in-SetLength.ensures (λ n. rw c.in-SetLength.is (record { objects = refl; stretch = refl })) in
+    let t = plain-told a.rec.now a.objects a.range c.requires a.head 1 (span 0 0) c.first-in-Append.result (omega arith) (unlisted a.rec.now) c.first-in-Append.ensures (λ n. elim c.in-Append.is [
+      | inl e ↦ rw e (record { objects = refl; stretch = refl })
+      | inr e ↦ rw e (record { objects = refl; stretch = refl })
+    ]) in
     record { told = t.0; sized = t.1 }
 
 pub returns-in-Forder : goal.returns-in-Forder

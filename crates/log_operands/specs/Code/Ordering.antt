@@ -1,6 +1,6 @@
 -- What is told of an operation: its operands and, of an overwrite, where it writes.
 use Rattle.std.specs.Prelude.{ℕ, ◌+◌, ◌≤◌, ◌<◌, ◌≡◌, List, [], ◌∷◌, ◌++◌, Bool, true, false, length, get_or, take}
-use Rattle.std.proofs.Math.Option.{Option, none, some}
+use Rattle.std.specs.Prelude.{Option, None, Some}
 use Rattle.log_operands.specs.declared.Order.{Order}
 use Rattle.record_reader.specs.declared.Objects.{Objects}
 use Rattle.buffer.specs.Code.Span.{stretch}
@@ -9,8 +9,8 @@ use Rattle.record.specs.Fields.{encode, valid, objects_of}
 
 -- what is told of an overwrite's stretch; of any other operation that there is none
 abbrev pub Stretched : Option Stretch → Bool → ℕ → ℕ → Type 0
-Stretched none w f n = w ≡ false
-Stretched (some t) w f n = (w ≡ true) × (f ≡ t.offset) × (n ≡ length t.content)
+Stretched None w f n = w ≡ false
+Stretched (Some t) w f n = (w ≡ true) × (f ≡ t.offset) × (n ≡ length t.content)
 
 -- fields 0 to 3
 abbrev pub fields_of : Objects → List ℕ

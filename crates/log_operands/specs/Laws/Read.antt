@@ -1,5 +1,5 @@
 -- What the reader yields when names are passed over: the limits of what was read, and the operation of the record.
-use Rattle.std.specs.Prelude.{ℕ, zero, suc, ◌≤◌, ◌<◌, ◌≡◌, Bool, ◌&&◌, ◌⊎◌, length, drop, leb}
+use Rattle.std.specs.Prelude.{ℕ, zero, suc, ◌≤◌, ◌<◌, ◌≡◌, Bool, ◌&&◌, ◌⊎◌, length, drop, leb, Some, None, Option}
 use native.Mathlib.Omega.{arith}
 use Rattle.std.proofs.Math.Path.{refl, subst}
 use Rattle.std.proofs.Common.{sym, ap, ◌∙◌, inl, inr, length-take, leb-true}
@@ -13,24 +13,15 @@ use Rattle.record.proofs.Laws.Operation.{one-group}
 use Rattle.record.specs.Fields.{stands_in, number_if, field, if_stands, between, all_up_to, different, valid_list, valid_objects, valid_range, valid, encode, objects_of}
 use Rattle.record.proofs.Laws.Record.{block-short}
 use Rattle.record_reader.specs.declared.Place.{Place}
-use Rattle.record_reader.specs.declared.Field.TheVariants.{Number}
 use Rattle.record_reader.specs.declared.Head.{Head}
-use Rattle.record_reader.specs.declared.Headed.TheVariants.{Is as HeadIs, Bad as NoHead}
 use Rattle.record_reader.specs.declared.Objects.{Objects}
-use Rattle.record_reader.specs.declared.ObjectFields.TheVariants.{Are as ObjectsAre, Bad as NoObjects}
 use Rattle.record_reader.specs.declared.Names.{Names}
-use Rattle.record_reader.specs.declared.NameFields.{NameFields}
-use Rattle.record_reader.specs.declared.NameFields.TheVariants.{Are as NamesAre, Bad as NoNames}
 use Rattle.record_reader.specs.declared.Range.{Range}
-use Rattle.record_reader.specs.declared.RangeFields.{RangeFields}
-use Rattle.record_reader.specs.declared.RangeFields.TheVariants.{Are as RangeIs, Bad as NoRange}
 use Rattle.record_reader.specs.declared.Whole.{Whole}
-use Rattle.record_reader.specs.declared.Reading.{Reading}
-use Rattle.record_reader.specs.declared.Reading.TheVariants.{Is as RecordIs, Bad as NoRecord}
-use Rattle.record_reader.specs.Code.Reader.{place, offset_at, block_at, list_at, name_at, head_at, objects_at, names_at, range_at, tied_at, after_names, after_range, record_at}
+use Rattle.record_reader.specs.Code.Reader.{with_next, place, offset_at, block_at, list_at, name_at, head_at, objects_at, names_at, range_at, tied_at, after_names, after_range, record_at}
 use Rattle.record_reader.specs.Code.Found.{record_from}
 use Rattle.record_reader.specs.Answer.{span_if, whole_of}
-use Rattle.record_reader.specs.Laws.Reader.{number-below}
+use Rattle.record_reader.specs.Laws.Reader.{same-next, number-below}
 use Rattle.record_reader.specs.Laws.SoundRecord.{number-went, part-went, no-range as refused-range, objects-sound, range-sound}
 use Rattle.record_reader.specs.Laws.Complete.{record-complete}
 use Rattle.record_reader.specs.Laws.Exact.{record-back}
@@ -41,12 +32,12 @@ use Rattle.log_operands.specs.Laws.Order.{unlisted}
 
 module _ (s : List ℕ) (m at : ℕ) where
   -- names that are absent take no bytes
-  no_names : stands_in m 16 ≡ false → stands_in m 32 ≡ false → names_at m s at ≡ NamesAre (record { name = span 0 0; second = span 0 0 }) (place at)
+  no_names : stands_in m 16 ≡ false → stands_in m 32 ≡ false → names_at m s at ≡ (with_next (record { name = span 0 0; second = span 0 0 }) (place at))
   unfolding names_at name_at
   no_names e f = rw (e, f)
 
   -- and so do fields 6 to 8
-  no-range : stands_in m 64 ≡ false → stands_in m 128 ≡ false → stands_in m 256 ≡ false → range_at m s at ≡ RangeIs (record { offset = 0; content = span 0 0; list = span 0 0 }) (place at)
+  no-range : stands_in m 64 ≡ false → stands_in m 128 ≡ false → stands_in m 256 ≡ false → range_at m s at ≡ (with_next (record { offset = 0; content = span 0 0; list = span 0 0 }) (place at))
   unfolding range_at offset_at block_at list_at
   no-range e f g = rw (e, f, g)
 
@@ -54,15 +45,15 @@ module _ (s : List ℕ) (m at : ℕ) where
   -- so fields 6 to 8 of such a map are found where names would begin, although those are passed over
   early : (n : Names) (u : Place) (g : Range) (t : Place)
       → ((stands_in m 16 ≡ false) × (stands_in m 32 ≡ false)) ⊎ ((stands_in m 64 ≡ false) × (stands_in m 128 ≡ false) × (stands_in m 256 ≡ false))
-      → names_at m s at ≡ NamesAre n u → range_at m s u.at ≡ RangeIs g t → (x : Place) × (range_at m s at ≡ RangeIs g x)
+      → names_at m s at ≡ with_next n u → range_at m s u.at ≡ with_next g t → (x : Place) × (range_at m s at ≡ with_next g x)
   early n u g t (inl k) e f =
       let a = no_names s m at k.0 k.1 in
-      let z : u ≡ place at = cc in
-      (t, subst (λ (y : Place). range_at m s y.at ≡ RangeIs g t) z f)
+      let z : u ≡ place at = sym (same-next (sym a ∙ e)).1 in
+      (t, subst (λ (y : Place). range_at m s y.at ≡ with_next g t) z f)
   early n u g t (inr k) e f =
       let a = no-range s m u.at k.0 k.1 k.2 in
-      let z : record { offset = 0; content = span 0 0; list = span 0 0 } ≡ g = cc in
-      (place at, no-range s m at k.0 k.1 k.2 ∙ ap (λ (y : Range). RangeIs y (place at)) z)
+      let z : record { offset = 0; content = span 0 0; list = span 0 0 } ≡ g = (same-next (sym a ∙ f)).0 in
+      (place at, no-range s m at k.0 k.1 k.2 ∙ ap (λ (y : Range). with_next y (place at)) z)
 
 -- a number with its limit, where its bit stands, and 0 where it does not
 below-if : (b : Bool) (least v w : ℕ) → if_stands b (between least 255 v) ≡ true → number_if b v ≡ w → w < 256
@@ -92,24 +83,24 @@ block_read s false p h e = let k = length-take p.len (drop p.start s) in (omega 
 
 module _ (s : List ℕ) (byte : Bytes s) (m : ℕ) where
   -- an offset that was read has 4 bytes
-  offset-small : (b : Bool) (at v : ℕ) (p : Place) → offset_at b s at ≡ Number v p → v < 4294967296
+  offset-small : (b : Bool) (at v : ℕ) (p : Place) → offset_at b s at ≡ with_next v p → v < 4294967296
   unfolding offset_at
   offset-small true at v p e = number-below 4 s at v p byte e
-  offset-small false at v p e = let z : 0 ≡ v = cc in omega arith
+  offset-small false at v p e = let z : 0 ≡ v = (same-next e).0 in omega arith
 
-  range-offset : (at : ℕ) (g : Range) (p : Place) → range_at m s at ≡ RangeIs g p → g.offset < 4294967296
+  range-offset : (at : ℕ) (g : Range) (p : Place) → range_at m s at ≡ with_next g p → g.offset < 4294967296
   unfolding range_at
   range-offset at g p e =
-      let i₁ = number-went (offset_at (stands_in m 64) s at) NoRange (RangeIs g p) _ (refused-range g p) e in
-      let i₂ = part-went (block_at (stands_in m 128) s i₁.1.at) NoRange (RangeIs g p) _ (refused-range g p) i₁.3 in
-      let i₃ = part-went (list_at (stands_in m 256) s i₂.2.at) NoRange (RangeIs g p) _ (refused-range g p) i₂.4 in
+      let i₁ = number-went (offset_at (stands_in m 64) s at) None (with_next g p) _ (refused-range g p) e in
+      let i₂ = part-went (block_at (stands_in m 128) s i₁.1.at) None (with_next g p) _ (refused-range g p) i₁.3 in
+      let i₃ = part-went (list_at (stands_in m 256) s i₂.2.at) None (with_next g p) _ (refused-range g p) i₂.4 in
       let g₀ : Range = record { offset = i₁.0; content = span i₂.0 i₂.1; list = span i₃.0 i₃.1 } in
-      let last : RangeIs g₀ i₃.2 ≡ RangeIs g p = i₃.4 in
-      let z : g₀ ≡ g = cc in
+      let last : with_next g₀ i₃.2 ≡ with_next g p = i₃.4 in
+      let z : g₀ ≡ g = (same-next last).0 in
       subst (λ (x : Range). x.offset < 4294967296) z (offset-small (stands_in m 64) at i₁.0 i₁.1 i₁.2)
 
   -- objects and range that were read lie within the limits
-  pub limited : (a b : ℕ) (o : Objects) (q : Place) (g : Range) (t : Place) → objects_at m s a ≡ ObjectsAre o q → range_at m s b ≡ RangeIs g t → Limited s o g
+  pub limited : (a b : ℕ) (o : Objects) (q : Place) (g : Range) (t : Place) → objects_at m s a ≡ with_next o q → range_at m s b ≡ with_next g t → Limited s o g
   unfolding valid_objects valid_range
   limited a b o q g t eo eg =
       let x = objects-sound s byte m a o q eo in
@@ -137,36 +128,36 @@ record Passed (s : List ℕ) (p : Operation) (h : Head) (o : Objects) (q : Place
   names : Names
   range : Range
   next : Place
-  there : range_at h.map s q.at ≡ RangeIs range next
+  there : range_at h.map s q.at ≡ with_next range next
   operation : read s h o names range ≡ p
 
 module _ (s : List ℕ) (r : Record) (rest : List ℕ) (good : valid r ≡ true) (here : s ≡ encode r ++ rest) where
-  whole : record_at s 0 ≡ RecordIs (whole_of r 0)
+  whole : record_at s 0 ≡ Some (whole_of r 0)
   whole = record-complete s 0 r rest good here
 
-  refused-record : NoRecord ≡ RecordIs (whole_of r 0) → ⊥
+  refused-record : None ≡ Some (whole_of r 0) → ⊥
   refused-record e = let z : ◌≡◌ {A = ℕ} 0 1 = cc in omega arith
 
   -- a valid record's head is there
-  pub head-there : head_at s 0 ≡ NoHead → ⊥
+  pub head-there : head_at s 0 ≡ None → ⊥
   unfolding record_at
   head-there e = refused-record (rw e at whole)
 
   -- and its objects
-  pub objects-there : (h : Head) (p : Place) → head_at s 0 ≡ HeadIs h p → objects_at h.map s p.at ≡ NoObjects → ⊥
+  pub objects-there : (h : Head) (p : Place) → head_at s 0 ≡ with_next h p → objects_at h.map s p.at ≡ None → ⊥
   unfolding record_at
   objects-there h p e f = refused-record (rw (e, f) at whole)
 
   -- and its fields 6 to 8
-  passed : (h : Head) (p : Place) (o : Objects) (q : Place) → head_at s 0 ≡ HeadIs h p → objects_at h.map s p.at ≡ ObjectsAre o q → Passed s r.operation h o q
+  passed : (h : Head) (p : Place) (o : Objects) (q : Place) → head_at s 0 ≡ with_next h p → objects_at h.map s p.at ≡ with_next o q → Passed s r.operation h o q
   unfolding record_at whole_of record_from
   passed h p o q e f = named (names_at h.map s q.at) refl (rw (e, f) at whole)
     where
-      answer : Names → Range → Place → Reading
-      answer n g t = cond (tied_at h.map o g) (RecordIs (record { head = h; objects = o; names = n; range = g; next = t })) NoRecord
+      answer : Names → Range → Place → Option Whole
+      answer n g t = cond (tied_at h.map o g) (Some (record { head = h; objects = o; names = n; range = g; next = t })) None
 
-      tied : (n : Names) (u : Place) (g : Range) (t : Place) → names_at h.map s q.at ≡ NamesAre n u → range_at h.map s u.at ≡ RangeIs g t
-          → (b : Bool) → cond b (RecordIs (record { head = h; objects = o; names = n; range = g; next = t })) NoRecord ≡ RecordIs (whole_of r 0) → Passed s r.operation h o q
+      tied : (n : Names) (u : Place) (g : Range) (t : Place) → names_at h.map s q.at ≡ with_next n u → range_at h.map s u.at ≡ with_next g t
+          → (b : Bool) → cond b (Some (record { head = h; objects = o; names = n; range = g; next = t })) None ≡ Some (whole_of r 0) → Passed s r.operation h o q
       tied n u g t en eg false w = absurd (refused-record w)
       tied n u g t en eg true w =
           let z : record { head = h; objects = o; names = n; range = g; next = t } ≡ whole_of r 0 = cc in
@@ -180,26 +171,26 @@ module _ (s : List ℕ) (r : Record) (rest : List ℕ) (good : valid r ≡ true)
             operation = ap (λ (y : Whole). (record_from s y).operation) z ∙ ap (λ (y : Record). y.operation) (record-back s 0 r rest good here);
           }
 
-      ranged : (n : Names) (u : Place) → names_at h.map s q.at ≡ NamesAre n u → (x : RangeFields) → range_at h.map s u.at ≡ x
-          → after_range x (λ g t. answer n g t) ≡ RecordIs (whole_of r 0) → Passed s r.operation h o q
-      ranged n u en NoRange eg w = absurd (refused-record w)
-      ranged n u en (RangeIs g t) eg w = tied n u g t en eg (tied_at h.map o g) w
+      ranged : (n : Names) (u : Place) → names_at h.map s q.at ≡ with_next n u → (x : Option (Range × Place)) → range_at h.map s u.at ≡ x
+          → after_range x (λ g t. answer n g t) ≡ Some (whole_of r 0) → Passed s r.operation h o q
+      ranged n u en None eg w = absurd (refused-record w)
+      ranged n u en (Some (g, t)) eg w = tied n u g t en eg (tied_at h.map o g) w
 
-      named : (x : NameFields) → names_at h.map s q.at ≡ x
-          → after_names x (λ n u. after_range (range_at h.map s u.at) (λ g t. answer n g t)) ≡ RecordIs (whole_of r 0) → Passed s r.operation h o q
-      named NoNames en w = absurd (refused-record w)
-      named (NamesAre n u) en w = ranged n u en (range_at h.map s u.at) refl w
+      named : (x : Option (Names × Place)) → names_at h.map s q.at ≡ x
+          → after_names x (λ n u. after_range (range_at h.map s u.at) (λ g t. answer n g t)) ≡ Some (whole_of r 0) → Passed s r.operation h o q
+      named None en w = absurd (refused-record w)
+      named (Some (n, u)) en w = ranged n u en (range_at h.map s u.at) refl w
 
   -- so they are found
-  pub range-there : (h : Head) (p : Place) (o : Objects) (q : Place) → head_at s 0 ≡ HeadIs h p → objects_at h.map s p.at ≡ ObjectsAre o q
-      → range_at h.map s q.at ≡ NoRange → ⊥
+  pub range-there : (h : Head) (p : Place) (o : Objects) (q : Place) → head_at s 0 ≡ with_next h p → objects_at h.map s p.at ≡ with_next o q
+      → range_at h.map s q.at ≡ None → ⊥
   range-there h p o q e f n = refused-range _ _ (sym n ∙ (passed h p o q e f).there)
 
   -- and what is told of what was read, whatever the names are, is told of the record's operation
-  pub told-read : (h : Head) (p : Place) (o : Objects) (q : Place) (g : Range) (t : Place) (x : Order) → head_at s 0 ≡ HeadIs h p → objects_at h.map s p.at ≡ ObjectsAre o q
-      → range_at h.map s q.at ≡ RangeIs g t → ((n : Names) → Ordering s (read s h o n g) x) → Ordering s r.operation x
+  pub told-read : (h : Head) (p : Place) (o : Objects) (q : Place) (g : Range) (t : Place) (x : Order) → head_at s 0 ≡ with_next h p → objects_at h.map s p.at ≡ with_next o q
+      → range_at h.map s q.at ≡ with_next g t → ((n : Names) → Ordering s (read s h o n g) x) → Ordering s r.operation x
   told-read h p o q g t x e f k tell =
       let w = passed h p o q e f in
       let a = w.there in
-      let z : g ≡ w.range = cc in
+      let z : g ≡ w.range = (same-next (sym k ∙ a)).0 in
       subst (λ (y : Operation). Ordering s y x) w.operation (rw z at (tell w.names))

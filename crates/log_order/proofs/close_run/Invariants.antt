@@ -8,7 +8,4 @@ use Rattle.log_order.proofs.close_run.Given as goal
 
 abbrev pub invariant-loop-j : goal.invariant-loop-j
 invariant-loop-j l =
-    (l.from ≤ l.j) × (l.j ≤ l.to) × (length l.found ≡ length l.initial.found) × ClosedMore (slots_in l.s) l.to l.j l.initial.found l.initial.all l.initial.others l.found l.all l.others l.count
-
-abbrev pub decreases-loop-j : goal.decreases-loop-j
-decreases-loop-j l = l.j
+    (l.from ≤ l.j) × (length l.found ≡ length l.initial.found) × ClosedMore (slots_in l.s) l.to l.j l.initial.found l.initial.all l.initial.others l.found l.all l.others l.count

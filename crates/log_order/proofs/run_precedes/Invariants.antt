@@ -1,6 +1,5 @@
 -- `log_order::run_precedes` meets its contract. The loop's invariant: the candidates from the place on decide.
 -- Assumes nothing.
-use Prim.Native.Nat.{◌-◌, ◌≤◌}
 use mathlib.Core.Path.{◌≡◌}
 use lib.Seq.{slice}
 use Rattle.record.specs.Operation.{Operation}
@@ -11,7 +10,4 @@ use Rattle.log_order.proofs.run_precedes.Given as goal
 
 abbrev pub invariant-loop-j : goal.invariant-loop-j
 invariant-loop-j l =
-    (l.j ≤ l.to) × ((q : Operation) → Later q l.set l.overwrite l.offset l.len → some_before q (slice l.from l.to (slots_in l.s)) ≡ some_before q (slice l.j l.to (slots_in l.s)))
-
-abbrev pub decreases-loop-j : goal.decreases-loop-j
-decreases-loop-j l = l.to - l.j
+    (q : Operation) → Later q l.set l.overwrite l.offset l.len → some_before q (slice l.from l.to (slots_in l.s)) ≡ some_before q (slice l.j l.to (slots_in l.s))

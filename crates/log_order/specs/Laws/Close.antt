@@ -5,7 +5,7 @@ use Rattle.std.proofs.Math.Path.{refl, sym}
 use mathlib.Core.List.{List, [], ◌∷◌, ◌++◌, Memᴰ}
 use Rattle.std.proofs.Math.Bool.{true, false, not, or-false, and_comm, and-eq-true_iff}
 use Rattle.std.proofs.lemmas.Bool.{false≢true, not-true}
-use Rattle.std.proofs.Math.Option.{Option, none, some}
+use Rattle.std.specs.Prelude.{Option, None, Some}
 use Rattle.std.proofs.lemmas.List.{get_or-replicate}
 use Rattle.std.proofs.Math.Seq.{drop-length}
 use Rattle.buffer.specs.Laws.Test.{or_cases, or_left, or_right}
@@ -52,10 +52,10 @@ unfolding directly_precedes
 precedes-plain a b t e = rw t (go (overwrite_of a) (overwrite_of b) e)
   where
     go : (x y : Option Stretch) → (is_some x ≡ false) ⊎ (is_some y ≡ false) → not (separate x y) ≡ true
-    go none y h = refl
-    go (some s) none h = refl
-    go (some s) (some t) (inl h) = absurd (false≢true (sym h))
-    go (some s) (some t) (inr h) = absurd (false≢true (sym h))
+    go None y h = refl
+    go (Some s) None h = refl
+    go (Some s) (Some t) (inl h) = absurd (false≢true (sym h))
+    go (Some s) (Some t) (inr h) = absurd (false≢true (sym h))
 
 precedes-touches : (a b : Operation) → directly_precedes a b ≡ true → touches a b ≡ true
 unfolding directly_precedes
@@ -165,10 +165,10 @@ unfolding directly_precedes
 precedes-both a b = rw (shares-sym (operands a) (operands b), separate-both (overwrite_of a) (overwrite_of b))
   where
     separate-both : (x y : Option Stretch) → separate x y ≡ separate y x
-    separate-both none none = refl
-    separate-both none (some t) = refl
-    separate-both (some s) none = refl
-    separate-both (some s) (some t) = ap not (and_comm (ltb s.offset (t.offset + length t.content)) (ltb t.offset (s.offset + length s.content)))
+    separate-both None None = refl
+    separate-both None (Some t) = refl
+    separate-both (Some s) None = refl
+    separate-both (Some s) (Some t) = ap not (and_comm (ltb s.offset (t.offset + length t.content)) (ltb t.offset (s.offset + length s.content)))
 
 -- each operation found behind a slot is later than the slot's
 pub found-later : (pick : Record → Bool) (ops : List ℕ) (l : List Slot) → Rising sequence_of l → (j : ℕ) → j < length l → (q : Record)

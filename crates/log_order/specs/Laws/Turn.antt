@@ -4,7 +4,7 @@ use Rattle.std.proofs.Common.{arith, sym, ap, ◌∙◌}
 use Rattle.std.proofs.Math.Path.{refl}
 use Rattle.std.proofs.Math.Bool.{true}
 use Rattle.std.proofs.lemmas.Bool.{false≢true}
-use Rattle.std.proofs.Math.Option.{Option, none, some}
+use Rattle.std.specs.Prelude.{Option, None, Some}
 use Rattle.buffer.specs.Laws.Test.{same_test}
 use Rattle.buffer.specs.Decoded.{is_some}
 use Rattle.record.specs.Operation.{Operation, Record, operands, Stretch, overwrite_of}
@@ -24,8 +24,8 @@ overwrite-told : (rec : List ℕ) (p : Operation) (o : Order) → Ordering rec p
 overwrite-told rec p o told = go (overwrite_of p) told.stretch
   where
     go : (x : Option Stretch) → Stretched x o.overwrite o.offset o.len → is_some x ≡ o.overwrite
-    go none e = sym e
-    go (some t) e = sym e.0
+    go None e = sym e
+    go (Some t) e = sym e.0
 
 -- the answer whether an operand that is told is in a set
 abbrev pub Shares : List ℕ → Order → List ℕ → Bool → Type 0

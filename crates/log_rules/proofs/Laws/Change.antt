@@ -5,7 +5,7 @@ use mathlib.Core.List.Memᴰ
 use mathlib.Core.List.{List, [], ◌∷◌, ◌++◌, map, Memᴰ}
 use Rattle.std.proofs.lemmas.Bool.{false≢true, not-true}
 use Rattle.std.proofs.Math.Bool.{and-eq-true_iff, and-false}
-use Rattle.std.proofs.Math.Option.{none, some}
+use Rattle.std.specs.Prelude.{None, Some}
 use Rattle.std.proofs.lemmas.List.{length-map}
 use Rattle.buffer.specs.Laws.Test.{or_left}
 use Rattle.record.specs.Operation.{Operation, Record, operands}
@@ -228,12 +228,12 @@ pub record Found (f : Slot → Bool) (l : List Slot) (r : Record) : Type 0 where
   pub leaves : removed f l ≡ before ++ after
 
 -- what is told of the earliest slot is found, and just that slot is removed
-pub earliest-found : (f : Slot → Bool) (l : List Slot) (r : Record) → earliest f l ≡ some r → Found f l r
+pub earliest-found : (f : Slot → Bool) (l : List Slot) (r : Record) → earliest f l ≡ Some r → Found f l r
 unfolding earliest removed any
 earliest-found f [] r e = let z : ◌≡◌ {A = ℕ} 0 1 = cc in absurd (omega arith)
 earliest-found f (s ∷ l) r e = go (f s) refl e (earliest-found f l r)
   where
-    go : (t : Bool) → f s ≡ t → cond t (some s.recorded) (earliest f l) ≡ some r → (earliest f l ≡ some r → Found f l r) → Found f (s ∷ l) r
+    go : (t : Bool) → f s ≡ t → cond t (Some s.recorded) (earliest f l) ≡ Some r → (earliest f l ≡ Some r → Found f l r) → Found f (s ∷ l) r
     go true h k down =
         record {
           before = [];
@@ -259,12 +259,12 @@ earliest-found f (s ∷ l) r e = go (f s) refl e (earliest-found f l r)
         }
 
 -- where no earliest slot is told of, none passes and none is removed
-pub earliest-none : (f : Slot → Bool) (l : List Slot) → earliest f l ≡ none → (any f l ≡ false) × (removed f l ≡ l)
+pub earliest-none : (f : Slot → Bool) (l : List Slot) → earliest f l ≡ None → (any f l ≡ false) × (removed f l ≡ l)
 unfolding earliest removed any
 earliest-none f [] e = (refl, refl)
 earliest-none f (s ∷ l) e = go (f s) refl e (earliest-none f l)
   where
-    go : (t : Bool) → f s ≡ t → cond t (some s.recorded) (earliest f l) ≡ none → (earliest f l ≡ none → (any f l ≡ false) × (removed f l ≡ l))
+    go : (t : Bool) → f s ≡ t → cond t (Some s.recorded) (earliest f l) ≡ None → (earliest f l ≡ None → (any f l ≡ false) × (removed f l ≡ l))
         → ((t || any f l) ≡ false) × (cond t l (s ∷ removed f l) ≡ s ∷ l)
     go true h k down = let z : ◌≡◌ {A = ℕ} 0 1 = cc in absurd (omega arith)
     go false h k down = let w = down k in (w.0, λ i. s ∷ w.1 i)
@@ -479,7 +479,7 @@ unfolding waiting_of
 first-lost s l h = rw h
 
 -- "Push sends the waiting operation of a given sequence number and frees its slot": just that one no longer waits
-pub sent-waiting : (k : ℕ) (l : Log) (r : Record) → waiting_at k l ≡ some r
+pub sent-waiting : (k : ℕ) (l : Log) (r : Record) → waiting_at k l ≡ Some r
     → (u : List Record) × (v : List Record) × (waiting_of l.slots ≡ u ++ (r ∷ v)) × (waiting_of (sent k l).slots ≡ u ++ v) × (r.sequence ≡ k)
 unfolding waiting_at
 sent-waiting k l r e =
@@ -507,26 +507,26 @@ pub taken-waiting : (p : ℕ) (l : Log) → waiting_of (taken p l).slots ≡ wai
 taken-waiting p l = losses-waiting p l.slots
 
 -- the waiting operation of a sequence number waits and has that number
-pub at-waiting : (k : ℕ) (l : Log) (r : Record) → waiting_at k l ≡ some r → Memᴰ r (waiting_of l.slots) × (r.sequence ≡ k)
+pub at-waiting : (k : ℕ) (l : Log) (r : Record) → waiting_at k l ≡ Some r → Memᴰ r (waiting_of l.slots) × (r.sequence ≡ k)
 at-waiting k l r e =
     let w = sent-waiting k l r e in
     (subst (Memᴰ r) (sym w.2) (Memᴰ.append_right w.0 (Memᴰ.head refl)), w.4)
 
-earliest-at : (next : ℕ) (l : List Slot) → Ordered next l → {s : Slot} → Memᴰ s l → is_waiting s ≡ true → earliest (is_sequence (sequence_of s)) l ≡ some s.recorded
+earliest-at : (next : ℕ) (l : List Slot) → Ordered next l → {s : Slot} → Memᴰ s l → is_waiting s ≡ true → earliest (is_sequence (sequence_of s)) l ≡ Some s.recorded
 unfolding earliest
 earliest-at next [] o m h = elim m [ ]
 earliest-at next (t ∷ l) o {s} (Memᴰ.head e) h =
     let a : is_sequence (sequence_of s) t ≡ true = ap (is_sequence (sequence_of s)) (sym e) ∙ and_both (is_waiting s) (eqb (sequence_of s) (sequence_of s)) h (eq-eqb (sequence_of s) (sequence_of s) refl) in
-    rw a (ap (λ (v : Slot). some v.recorded) (sym e))
+    rw a (ap (λ (v : Slot). Some v.recorded) (sym e))
 earliest-at next (t ∷ l) o {s} (Memᴰ.tail m) h =
     let k : sequence_of t < sequence_of s = (o.1 s m).0 in
     let a : is_sequence (sequence_of s) t ≡ false = rw (ne_eqb (sequence_of t) (sequence_of s) (λ e. omega arith)) (and-false (is_waiting t)) in
     rw a (earliest-at next l o.2 m h)
 
 -- each waiting operation of a well-formed log is found by its sequence number
-pub waiting-at : (n b m : ℕ) (l : Log) → well_formed_log n b m l ≡ true → {r : Record} → Memᴰ r (waiting_of l.slots) → waiting_at r.sequence l ≡ some r
+pub waiting-at : (n b m : ℕ) (l : Log) → well_formed_log n b m l ≡ true → {r : Record} → Memᴰ r (waiting_of l.slots) → waiting_at r.sequence l ≡ Some r
 unfolding waiting_at
 waiting-at n b m l w {r} k =
     let u = waiting-in l.slots k in
     let e = earliest-at l.head.next l.slots (rising-inv l.head.next l.slots (formed-inv n b m l w).order) u.1 u.2 in
-    subst (λ (x : Record). earliest (is_sequence x.sequence) l.slots ≡ some x) (sym u.3) e
+    subst (λ (x : Record). earliest (is_sequence x.sequence) l.slots ≡ Some x) (sym u.3) e

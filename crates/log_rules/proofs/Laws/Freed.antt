@@ -4,7 +4,7 @@ use Rattle.std.proofs.Common.{add-one, arith, sym, ap, ◌∙◌, subst, ⊎_eli
 use mathlib.Core.List.Memᴰ
 use mathlib.Core.List.{List, [], ◌∷◌, ◌++◌, Memᴰ}
 use Rattle.std.proofs.Math.Bool.{and-false}
-use Rattle.std.proofs.Math.Option.{none, some}
+use Rattle.std.specs.Prelude.{None, Some}
 use Rattle.record.specs.Operation.{Record, operands}
 use Rattle.log_rules.specs.Programs.{with}
 use Rattle.log_rules.specs.Slot.{Slot, with_dependents, Log, with_slots, is_waiting, sequence_of, good_slots, well_formed_log}
@@ -34,14 +34,14 @@ removed-at f l i lt h earlier = rw add-one (removed-on f l i lt h earlier)
 
 -- its record is the earliest
 pub earliest-at : (f : Slot → Bool) (l : List Slot) (i : ℕ) → i < length l → f (slot_at l i) ≡ true → ((j : ℕ) → j < i → f (slot_at l j) ≡ false)
-    → earliest f l ≡ some (slot_at l i).recorded
+    → earliest f l ≡ Some (slot_at l i).recorded
 unfolding earliest
 earliest-at f [] i lt h earlier = absurd (omega arith)
 earliest-at f (s ∷ l) zero lt h earlier = rw h
 earliest-at f (s ∷ l) (suc i) lt h earlier = rw (earlier 0 (omega arith)) (earliest-at f l i (omega arith) h (λ j k. earlier (suc j) (omega arith)))
 
 -- where none passes there is no earliest
-pub earliest-not : (f : Slot → Bool) (l : List Slot) → ((j : ℕ) → j < length l → f (slot_at l j) ≡ false) → earliest f l ≡ none
+pub earliest-not : (f : Slot → Bool) (l : List Slot) → ((j : ℕ) → j < length l → f (slot_at l j) ≡ false) → earliest f l ≡ None
 unfolding earliest
 earliest-not f [] earlier = refl
 earliest-not f (s ∷ l) earlier = rw (earlier 0 (omega arith)) (earliest-not f l (λ j k. earlier (suc j) (omega arith)))

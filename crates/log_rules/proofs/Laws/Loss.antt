@@ -3,7 +3,7 @@ use Rattle.std.specs.Prelude.{ℕ, ◌≡◌, refl, Bool, true, false, not, ◌&
 use Rattle.std.proofs.Common.{arith, sym, ap, ◌∙◌, eqb-true, ne_eqb}
 use mathlib.Core.List.{List, [], ◌∷◌, ◌++◌, map, Memᴰ, append-nil}
 use Rattle.std.proofs.Math.Bool.{and-eq-true_iff}
-use Rattle.std.proofs.Math.Option.{some}
+use Rattle.std.specs.Prelude.{Some}
 use Rattle.record.specs.Operation.{Operation, Record, operands}
 use Rattle.log_rules.specs.Programs.{with}
 use Rattle.log_rules.specs.Slot.{state_number, Slot, with_dependents, Log, is_waiting, sequence_of}
@@ -56,13 +56,13 @@ sent-lost p n (s ∷ l) = go (is_sequence n s) refl (sent-lost p n l)
     go false e ih = ap (λ (x : List Record). cond (is_loss_of p s) (s.recorded ∷ x) x) ih
 
 -- "Take writes the earliest loss of a program and frees its slot": the first of its losses
-pub taken_own : (p : ℕ) (l : List Slot) (r : Record) → earliest (is_loss_of p) l ≡ some r → losses_of p l ≡ r ∷ losses_of p (removed (is_loss_of p) l)
+pub taken_own : (p : ℕ) (l : List Slot) (r : Record) → earliest (is_loss_of p) l ≡ Some r → losses_of p l ≡ r ∷ losses_of p (removed (is_loss_of p) l)
 unfolding earliest removed losses_of
 taken_own p [] r e = let z : ◌≡◌ {A = ℕ} 0 1 = cc in absurd (omega arith)
 taken_own p (s ∷ l) r e = go (is_loss_of p s) refl e (taken_own p l r)
   where
-    go : (t : Bool) → is_loss_of p s ≡ t → cond t (some s.recorded) (earliest (is_loss_of p) l) ≡ some r
-        → (earliest (is_loss_of p) l ≡ some r → losses_of p l ≡ r ∷ losses_of p (removed (is_loss_of p) l))
+    go : (t : Bool) → is_loss_of p s ≡ t → cond t (Some s.recorded) (earliest (is_loss_of p) l) ≡ Some r
+        → (earliest (is_loss_of p) l ≡ Some r → losses_of p l ≡ r ∷ losses_of p (removed (is_loss_of p) l))
         → cond t (s.recorded ∷ losses_of p l) (losses_of p l) ≡ r ∷ losses_of p (cond t l (s ∷ removed (is_loss_of p) l))
     go true h k down = let z : s.recorded ≡ r = cc in ap (λ (x : Record). x ∷ losses_of p l) z
     go false h k down = down k ∙ ap (λ (x : List Record). r ∷ x) (sym (ap (λ (b : Bool). cond b (s.recorded ∷ losses_of p (removed (is_loss_of p) l)) (losses_of p (removed (is_loss_of p) l))) h))

@@ -2,7 +2,7 @@
 use Rattle.std.specs.Prelude.{ℕ, zero, suc, ◌+◌, ◌*◌, ◌-◌, ◌%◌, ◌^◌, ◌<◌, ◌≡◌, refl, List, [], ◌∷◌, ◌++◌, Bool, true, false, ◌&&◌, cond, length, get_or, take, drop, replicate}
 use Rattle.std.proofs.Common.{arith, ap, ◌∙◌, append_assoc, length-append, take_all, take_at, drop_at, get_or-take}
 use Rattle.std.proofs.Math.Bool.{and-eq-true_iff}
-use Rattle.std.proofs.Math.Option.{none, some}
+use Rattle.std.specs.Prelude.{None, Some}
 use Rattle.buffer.specs.Numeral.{bytes, numeral}
 use Rattle.buffer.specs.Patch.{patch}
 use Rattle.buffer.specs.Laws.Numeral.{numeral-bytes}
@@ -57,7 +57,7 @@ pub record-held : (s : Slot) → valid s.recorded ≡ true → record_part (enco
 unfolding encode_slot bytes
 record-held s h = let p = part-long s h in take_all record_bytes _ (omega arith)
 
-slot-record : (s : Slot) → valid s.recorded ≡ true → decode_record (record_part (encode_slot s)) ≡ some s.recorded
+slot-record : (s : Slot) → valid s.recorded ≡ true → decode_record (record_part (encode_slot s)) ≡ Some s.recorded
 slot-record s h = ap decode_record (record-held s h) ∙ decode-encoded s.recorded (replicate (record_bytes - length (encode s.recorded)) 0) h
 
 pub slot-dependents : (s : Slot) → s.dependents < 2 ^ 32 → numeral (take 4 (drop dependents_at (encode_slot s))) ≡ s.dependents
@@ -68,12 +68,12 @@ pub slot-state : (s : Slot) → get_or (encode_slot s) 0 0 ≡ state_number s.st
 unfolding encode_slot bytes
 slot-state s = refl
 
-state-back : (t : State) (d : ℕ) (r : Record) → slot_from (state_number t % 256) d (some r) ≡ some (record { state = t; dependents = d; recorded = r })
+state-back : (t : State) (d : ℕ) (r : Record) → slot_from (state_number t % 256) d (Some r) ≡ Some (record { state = t; dependents = d; recorded = r })
 state-back waiting d r = refl
 state-back lost d r = refl
 
 -- a slot is read back from its bytes
-pub read-slot : (s : Slot) → valid s.recorded ≡ true → s.dependents < 2 ^ 32 → read_slot (encode_slot s) ≡ some s
+pub read-slot : (s : Slot) → valid s.recorded ≡ true → s.dependents < 2 ^ 32 → read_slot (encode_slot s) ≡ Some s
 unfolding read_slot
 read-slot s h d = rw (slot-state s, slot-dependents s d, slot-record s h) (state-back s.state s.dependents s.recorded)
 
@@ -82,7 +82,7 @@ zeros-start zero = refl
 zeros-start (suc k) = refl
 
 -- "0 free": zeros are no used slot
-pub read-free : (k : ℕ) → read_slot (take slot_bytes (replicate k 0)) ≡ none
+pub read-free : (k : ℕ) → read_slot (take slot_bytes (replicate k 0)) ≡ None
 unfolding read_slot
 read-free k =
     let e : ◌≡◌ {A = ℕ} (get_or (take slot_bytes (replicate k 0)) 0 0) 0 = get_or-take slot_bytes (replicate k 0) 0 0 (omega arith) ∙ zeros-start k in
@@ -122,11 +122,11 @@ read-log n b m l h =
     λ i. record { head = e i; slots = r i }
 
 -- bytes taken for a log are those of that log, which is well formed
-pub encode-decode : (n b m : ℕ) (s : List ℕ) (l : Log) → decode_log n b m s ≡ some l → (well_formed_log n b m l ≡ true) × (encode_log m l ≡ s)
+pub encode-decode : (n b m : ℕ) (s : List ℕ) (l : Log) → decode_log n b m s ≡ Some l → (well_formed_log n b m l ≡ true) × (encode_log m l ≡ s)
 unfolding decode_log
 encode-decode n b m s l e = go (well_formed_log n b m (read_log m s) && same_bytes (encode_log m (read_log m s)) s) refl e
   where
-    go : (t : Bool) → (well_formed_log n b m (read_log m s) && same_bytes (encode_log m (read_log m s)) s) ≡ t → cond t (some (read_log m s)) none ≡ some l
+    go : (t : Bool) → (well_formed_log n b m (read_log m s) && same_bytes (encode_log m (read_log m s)) s) ≡ t → cond t (Some (read_log m s)) None ≡ Some l
         → (well_formed_log n b m l ≡ true) × (encode_log m l ≡ s)
     go false h d = let z : ◌≡◌ {A = ℕ} 0 1 = cc in absurd (omega arith)
     go true h d =
@@ -135,13 +135,13 @@ encode-decode n b m s l e = go (well_formed_log n b m (read_log m s) && same_byt
         (rw is at g.0, rw is at (same_bytes-eq (encode_log m (read_log m s)) s g.1))
 
 -- the bytes of a well-formed log are taken for it, whatever n, b and m
-pub decode-encode : (n b m : ℕ) (l : Log) → well_formed_log n b m l ≡ true → decode_log n b m (encode_log m l) ≡ some l
+pub decode-encode : (n b m : ℕ) (l : Log) → well_formed_log n b m l ≡ true → decode_log n b m (encode_log m l) ≡ Some l
 unfolding decode_log
 decode-encode n b m l h = rw (read-log n b m l h, h, bytes_same (encode_log m l))
 
 -- no bytes are those of two well-formed logs
 pub encode_injective : (n b m : ℕ) (l k : Log) → well_formed_log n b m l ≡ true → well_formed_log n b m k ≡ true → encode_log m l ≡ encode_log m k → l ≡ k
 encode_injective n b m l k g h e =
-    let p : decode_log n b m (encode_log m l) ≡ some l = decode-encode n b m l g in
-    let q : decode_log n b m (encode_log m k) ≡ some k = decode-encode n b m k h in
+    let p : decode_log n b m (encode_log m l) ≡ Some l = decode-encode n b m l g in
+    let q : decode_log n b m (encode_log m k) ≡ Some k = decode-encode n b m k h in
     cc

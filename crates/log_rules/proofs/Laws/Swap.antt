@@ -5,7 +5,7 @@ use Rattle.std.specs.Prelude.{ℕ, ◌+◌, ◌-◌, ◌≤◌, ◌<◌, ◌≡�
 use Rattle.std.proofs.Common.{arith, sym, ap, ◌∙◌, append_assoc, length-append, length-take, length-drop, take-append-drop, set-set, leb-true, ltb-false, eqb-true}
 use Rattle.std.proofs.Math.Bool.{and-eq-true_iff, and_comm}
 use Rattle.std.proofs.lemmas.Bool.{false≢true, not-true, not-false}
-use Rattle.std.proofs.Math.Option.{Option, none, some}
+use Rattle.std.specs.Prelude.{Option, None, Some}
 use Rattle.buffer.specs.Laws.Test.{or_left, or_right, same_test}
 use Rattle.record.specs.Operation.{Operation, overwrite, Record, operands, Stretch, overwrite_of}
 use Rattle.record.proofs.Laws.Operation.{overwrites}
@@ -65,10 +65,10 @@ pub data Apart (a b : Operation) : Type 0 where
 
 -- two stretches without a common byte
 separated : (s t : Option Stretch) → separate s t ≡ true
-    → (u : Stretch) × (w : Stretch) × (s ≡ some u) × (t ≡ some w) × (overlap u.offset u.content w.offset w.content ≡ false)
-separated none t e = absurd (false≢true e)
-separated (some s) none e = absurd (false≢true e)
-separated (some s) (some t) e = (s, t, refl, refl, not-true _ e)
+    → (u : Stretch) × (w : Stretch) × (s ≡ Some u) × (t ≡ Some w) × (overlap u.offset u.content w.offset w.content ≡ false)
+separated None t e = absurd (false≢true e)
+separated (Some s) None e = absurd (false≢true e)
+separated (Some s) (Some t) e = (s, t, refl, refl, not-true _ e)
 
 one-shared : (o p : ℕ) → shares (o ∷ []) (p ∷ []) ≡ true → o ≡ p
 unfolding shares member

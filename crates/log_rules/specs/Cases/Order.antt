@@ -1,7 +1,7 @@
 -- Document 01, "Cases to prove", where they speak of operations alone, and what a cut and an fsync make of a log: one table,
 -- proved through one statement.
 use Rattle.std.specs.Prelude.{ℕ, ◌+◌, ◌≡◌, refl, List, [], ◌∷◌, map, replicate}
-use Rattle.std.proofs.Math.Option.{none}
+use Rattle.std.specs.Prelude.{None}
 use Rattle.record.specs.Operation.{Operation, create_file, make_directory, rename, overwrite, set_length, Record, operands}
 use Rattle.record.specs.Fields.{member}
 use Rattle.log_rules.specs.Programs.{union_of}
@@ -53,10 +53,10 @@ over f n = overwrite 1 f (replicate n 7)
 -- the directories a, b, c, d and e of figure 3 are 1 to 5, its files 6 to 9
 abbrev pub renames : List Operation
 renames =
-    rename 6 1 4 none (97 ∷ []) (101 ∷ [])
-    ∷ rename 7 2 5 none (98 ∷ []) (102 ∷ [])
-    ∷ rename 8 3 4 none (99 ∷ []) (103 ∷ [])
-    ∷ rename 9 4 5 none (100 ∷ []) (104 ∷ [])
+    rename 6 1 4 None (97 ∷ []) (101 ∷ [])
+    ∷ rename 7 2 5 None (98 ∷ []) (102 ∷ [])
+    ∷ rename 8 3 4 None (99 ∷ []) (103 ∷ [])
+    ∷ rename 9 4 5 None (100 ∷ []) (104 ∷ [])
     ∷ []
 
 -- a lost operation of program 1, then two waiting ones; programs 0 and 2 depend on the first, 2 and 3 on the second

@@ -35,7 +35,7 @@ applies-requires c =
     let p = c.requires.s_value in record {
       lent = c.requires.formed.lent;
       fitting = record-fitting a.n a.b (slots_in a.s.now) p.0 a.i p.1 c.recorded-rec.result.now c.recorded-rec.ensures.0
-          c.in-Is.w c.in-Is.ensures.value;
+          c.in-Some.w c.in-Some.ensures.value;
     }
 
 pub apply-requires : goal.apply-requires
@@ -44,7 +44,7 @@ apply-requires c =
     let p = c.requires.s_value in record {
       formed = c.requires.formed;
       fitting = record-fitting a.n a.b (slots_in a.s.now) p.0 a.i p.1 c.recorded-rec.result.now c.recorded-rec.ensures.0
-          c.in-Is.w c.in-Is.ensures.value;
+          c.in-Some.w c.in-Some.ensures.value;
       w_value = settled c.applies.ensures c.if-applies.true;
     }
 
@@ -54,7 +54,7 @@ returns-then-applies c =
     let p = c.requires.s_value in
     let v = read_volume a.n a.b a.server.now in
     let e = ap (λ (r : Record). r.operation) (record-found a.n a.b (slots_in a.s.now) p.0 a.i p.1 c.recorded-rec.result.now c.recorded-rec.ensures.0
-    c.in-Is.w c.in-Is.ensures.value) in
+    c.in-Some.w c.in-Some.ensures.value) in
     did-apply a.b v _ _ e c.apply.new.s (settled c.applies.ensures c.if-applies.true) c.apply.ensures
 
 pub returns : goal.returns
@@ -63,5 +63,5 @@ returns c =
     let p = c.requires.s_value in
     let v = read_volume a.n a.b a.server.now in
     let e = ap (λ (r : Record). r.operation) (record-found a.n a.b (slots_in a.s.now) p.0 a.i p.1 c.recorded-rec.result.now c.recorded-rec.ensures.0
-    c.in-Is.w c.in-Is.ensures.value) in
+    c.in-Some.w c.in-Some.ensures.value) in
     did-not a.b v _ _ e a.server.now (settled c.applies.ensures c.if-applies.false) (sym c.requires.formed.stored)

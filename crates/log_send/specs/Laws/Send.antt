@@ -1,9 +1,8 @@
 -- What was sent: the record that the code reads in a slot, which operations are sent within k, and the server after them.
 -- Assumes nothing.
-use Rattle.std.specs.Prelude.{ℕ, zero, suc, ◌<◌, ◌≡◌, refl, List, [], ◌∷◌, Bool, true, false, cond, length, take}
+use Rattle.std.specs.Prelude.{ℕ, zero, suc, ◌<◌, ◌≡◌, refl, List, [], ◌∷◌, Bool, true, false, cond, length, take, None, Some}
 use Rattle.std.proofs.Common.{ap}
 use Rattle.record_reader.specs.declared.Whole.{Whole}
-use Rattle.record_reader.specs.declared.Reading.TheVariants.{Is as RecordIs, Bad as NoRecord}
 use Rattle.record.specs.Operation.{Record}
 use Rattle.record.specs.Fields.{encode, valid, fits}
 use Rattle.record_reader.specs.Code.Reader.{record_at}
@@ -32,13 +31,13 @@ module _ (n b : ℕ) (l : List Slot) (all_good : good_slots n b l ≡ true) (i :
   good : GoodSlot n b (slot_at l i)
   good = good-at n b l i all_good h
 
-  pub record-there : NoRecord ≡ record_at t 0 → ⊥
+  pub record-there : None ≡ record_at t 0 → ⊥
   record-there q = held-there t (slot_at l i).recorded _ good.sound e q
 
-  pub record-found : (w : Whole) → RecordIs w ≡ record_at t 0 → record_from t w ≡ (slot_at l i).recorded
+  pub record-found : (w : Whole) → (Some w) ≡ record_at t 0 → record_from t w ≡ (slot_at l i).recorded
   record-found w q = held_found t (slot_at l i).recorded _ good.sound e w q
 
-  pub record-fitting : (w : Whole) → RecordIs w ≡ record_at t 0 → Fitting n b t w
+  pub record-fitting : (w : Whole) → (Some w) ≡ record_at t 0 → Fitting n b t w
   record-fitting w q = held-fitting t (slot_at l i).recorded _ good.sound e w q n b good.fit
 
 -- What is sent within k is the first of the operations, up to the first that does not apply; and it is so many.

@@ -13,15 +13,15 @@ returns-in_default c =
 pub slice_bounds-put_bytes-end : goal.slice_bounds-put_bytes-end
 slice_bounds-put_bytes-end c =
     loss-next c.args.s.now c.requires.slotted c.args.i c.requires.i_in_bounds c.recorded-rec.result.now c.recorded-rec.ensures.0
-    c.in-Is.w c.in-Is.ensures.value
+    c.in-Some.w c.in-Some.ensures.value
 
 pub put_bytes-requires : goal.put_bytes-requires
 put_bytes-requires c =
     let l = loss-most c.args.s.now c.requires.slotted c.args.i c.requires.i_in_bounds c.recorded-rec.result.now c.recorded-rec.ensures.0
-    c.in-Is.w c.in-Is.ensures.value in
+    c.in-Some.w c.in-Some.ensures.value in
     omega (arith, l, c.requires.record_bytes_in_bounds)
 
 pub returns : goal.returns
 returns c =
     loss-written c.args.s.now c.requires.slotted c.args.i c.requires.i_in_bounds c.recorded-rec.result.now c.recorded-rec.ensures.0
-    c.in-Is.w c.in-Is.ensures.value c.put_bytes.ensures
+    c.in-Some.w c.in-Some.ensures.value c.put_bytes.ensures

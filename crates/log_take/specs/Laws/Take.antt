@@ -1,12 +1,11 @@
 -- The loss record in the bytes of a slot, and what freeing one slot leaves of a log. Assumes nothing.
-use Rattle.std.specs.Prelude.{ℕ, zero, suc, ◌+◌, ◌*◌, ◌-◌, ◌≤◌, ◌<◌, ◌≡◌, List, [], ◌∷◌, ◌++◌, true, length, take, drop, replicate}
+use Rattle.std.specs.Prelude.{ℕ, zero, suc, ◌+◌, ◌*◌, ◌-◌, ◌≤◌, ◌<◌, ◌≡◌, List, [], ◌∷◌, ◌++◌, true, length, take, drop, replicate, None}
 use Rattle.std.proofs.Common.{add-one, arith, sym, ap, ◌∙◌, length-append, length-drop, length-take-le}
-use Rattle.std.proofs.Math.Option.{some}
+use Rattle.std.specs.Prelude.{Some}
 use Rattle.buffer.specs.Patch.{Put}
 use Rattle.record.specs.Fields.{encode}
 use Rattle.record.proofs.Laws.Record.{encode-length}
 use Rattle.record_reader.specs.declared.Whole.{Whole}
-use Rattle.record_reader.specs.declared.Reading.TheVariants.{Is as RecordIs, Bad as NoRecord}
 use Rattle.record_reader.specs.Code.Reader.{record_at}
 use Rattle.volume_entry.specs.Stored.{padded}
 use Rattle.volume_applies.specs.Laws.Held.{held-there, held_next, held_bytes}
@@ -18,17 +17,16 @@ use Rattle.log_rules.proofs.Laws.Geometry.{used-good}
 use Rattle.log_rules.specs.Code.Slots.{slots_in, slot_at, Slotted, Logged, used_in}
 use Rattle.log_slots.specs.Laws.Slot.{record-valid}
 use Rattle.log_slots.specs.Laws.Head.{lent_part, lent-slots, used-fewer}
-use Rattle.log_find.specs.declared.Position.TheVariants.{At}
 use Rattle.log_find.specs.Code.Found.{FoundBy}
 use Rattle.log_find.specs.Laws.Found.{found-earliest, found-removed}
 use Rattle.log_take.specs.Code.Taken.{Written, freed_at}
 
 module _ (s : List ℕ) (u : Slotted s) (i : ℕ) (lt : i < length (slots_in s)) (t : List ℕ) (h : t ≡ padded record_bytes (encode (slot_at (slots_in s) i).recorded)) where
   -- The reader finds the loss record of a slot in its bytes.
-  pub record-there : NoRecord ≡ record_at t 0 → ⊥
+  pub record-there : None ≡ record_at t 0 → ⊥
   record-there = held-there t (slot_at (slots_in s) i).recorded _ (record-valid s u i lt) h
 
-  module _ (w : Whole) (q : RecordIs w ≡ record_at t 0) where
+  module _ (w : Whole) (q : Some w ≡ record_at t 0) where
     loss-bytes : take w.next.at t ≡ encode (slot_at (slots_in s) i).recorded
     loss-bytes = held_bytes t (slot_at (slots_in s) i).recorded _ (record-valid s u i lt) h w q
 
@@ -73,7 +71,7 @@ module _ (m : ℕ) (s : List ℕ) (u : Logged 256 64 m s) {k : ℕ} (e : k ≡ u
 
 -- "Take writes the earliest loss of a program and frees its slot": where that loss was found, freeing the slot there is a take,
 -- and its record is the earliest.
-pub found-taken : (p i : ℕ) (l : Log) → FoundBy (is_loss_of p) l.slots (At i)
-    → (freed_at i l ≡ taken p l) × (earliest (is_loss_of p) l.slots ≡ some (slot_at l.slots i).recorded)
+pub found-taken : (p i : ℕ) (l : Log) → FoundBy (is_loss_of p) l.slots (Some i)
+    → (freed_at i l ≡ taken p l) × (earliest (is_loss_of p) l.slots ≡ Some (slot_at l.slots i).recorded)
 found-taken p i l h =
     (ap (λ (z : List Slot). with_slots z l) (sym (found-removed (is_loss_of p) l.slots i h)), found-earliest (is_loss_of p) l.slots i h)

@@ -50,15 +50,15 @@ pub put_line-to-requires : goal.put_line-to-requires
 put_line-to-requires c =
     let a = c.args in
     let l = c.loop-place in
-    let r = read_at a.s.now (λ i. (c.type_inv.s i).fits) l.place.at c.in-Is.w (sym c.«record».ensures ∙ c.in-Is.is) in
-    rw c.code.ensures (line-room a.s.now a.base a.ended a.out.now l.place.at l.to l.out l.invariant c.requires.s_in_bounds c.in-Is.w r)
+    let r = read_at a.s.now (λ i. (c.type_inv.s i).fits) l.place.at c.in-Some.w (sym c.«record».ensures ∙ c.in-Some.is) in
+    rw c.code.ensures (line-room a.s.now a.base a.ended a.out.now l.place.at l.to l.out l.invariant c.requires.s_in_bounds c.in-Some.w r)
 
 pub loop-place-smaller : goal.loop-place-smaller
 loop-place-smaller c =
     let a = c.args in
     let l = c.loop-place in
-    let r = read_at a.s.now (λ i. (c.type_inv.s i).fits) l.place.at c.in-Is.w (sym c.«record».ensures ∙ c.in-Is.is) in
-    omega (arith, next-within a.s.now l.place.at c.in-Is.w l.invariant.within r)
+    let r = read_at a.s.now (λ i. (c.type_inv.s i).fits) l.place.at c.in-Some.w (sym c.«record».ensures ∙ c.in-Some.is) in
+    omega (arith, next-within a.s.now l.place.at c.in-Some.w l.invariant.within r)
 
 pub loop-place-preserved : goal.loop-place-preserved
 loop-place-preserved c =
@@ -67,9 +67,9 @@ loop-place-preserved c =
     let p = c.put_line-to in
     let d = decides a.ended a.s.now l.place.at
     (λ e. elim c.if-not-ended.branch [ then-not-ended+else-s-at-lt-LONGEST w ↦ omega arith | else-not-ended w ↦ absurd (cc) ]) in
-    let r = read_at a.s.now (λ i. (c.type_inv.s i).fits) l.place.at c.in-Is.w (sym c.«record».ensures ∙ c.in-Is.is) in
+    let r = read_at a.s.now (λ i. (c.type_inv.s i).fits) l.place.at c.in-Some.w (sym c.«record».ensures ∙ c.in-Some.is) in
     begun-line a.s.now a.base a.ended a.out.now l.place.at l.to l.out l.invariant c.requires.s_in_bounds
-    c.in-Is.w r d p.result p.new.out p.auto.out (rw c.code.ensures at p.ensures)
+    c.in-Some.w r d p.result p.new.out p.auto.out (rw c.code.ensures at p.ensures)
 
 pub shape_of-out-then-ended : goal.shape_of-out-then-ended
 shape_of-out-then-ended c = c.loop-place.invariant.long

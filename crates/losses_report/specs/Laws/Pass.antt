@@ -1,13 +1,11 @@
 -- How a pass goes from place to place.
-use Rattle.std.specs.Prelude.{ℕ, ◌+◌, ◌*◌, ◌-◌, ◌^◌, ◌≤◌, ◌<◌, ◌≡◌, refl, List, [], ◌++◌, Bool, true, false, not, length, drop, leb}
+use Rattle.std.specs.Prelude.{ℕ, ◌+◌, ◌*◌, ◌-◌, ◌^◌, ◌≤◌, ◌<◌, ◌≡◌, refl, List, [], ◌++◌, Bool, true, false, not, length, drop, leb, Option, None, Some}
 use Rattle.std.proofs.Common.{arith, ap, sym, ◌∙◌, append_assoc, append-nil, length-append, length-drop, drop_of_length-le, drop-drop, leb-true}
 use Rattle.std.proofs.Math.Bool.{and-eq-true_iff}
 use Rattle.std.proofs.Math.Seq.{drop-append_seam}
 use Rattle.record.specs.declared.kind.Kind.{Kind}
 use Rattle.record.specs.declared.kind.Kind.TheVariants.{CreateFile, MakeDirectory, Remove, Rename, Overwrite, Append, SetLength, Forder}
 use Rattle.record_reader.specs.declared.Whole.{Whole}
-use Rattle.record_reader.specs.declared.Reading.{Reading}
-use Rattle.record_reader.specs.declared.Reading.TheVariants.{Is as RecordIs, Bad as NoRecord}
 use Rattle.record.specs.Kind.{code_of}
 use Rattle.buffer.specs.Numeral.{Bytes}
 use Rattle.buffer.specs.Patch.{Put}
@@ -53,17 +51,17 @@ pub record ReadAt (s : List ℕ) (at : ℕ) (w : Whole) : Type 0 where
   pub begins : drop at s ≡ encode found ++ rest
   pub answer : w ≡ whole_of found at
 
-pub read_at : (s : List ℕ) → Bytes s → (at : ℕ) (w : Whole) → record_at s at ≡ RecordIs w → ReadAt s at w
+pub read_at : (s : List ℕ) → Bytes s → (at : ℕ) (w : Whole) → record_at s at ≡ Some w → ReadAt s at w
 read_at s byte at w e = go (record_at s at) (exact s byte at) e
   where
-    go : (x : Reading) → Exact s at x → x ≡ RecordIs w → ReadAt s at w
+    go : (x : Option Whole) → Exact s at x → x ≡ Some w → ReadAt s at w
     go x (read r rest h d) f = record { found = r; rest = rest; good = h; begins = d; answer = cc }
     go x (refused n) f = let z : ◌≡◌ {A = ℕ} 0 1 = cc in absurd (omega arith)
 
-pub not-one : (s : List ℕ) → Bytes s → (at : ℕ) → at < length s → record_at s at ≡ NoRecord → NotOne (drop at s)
+pub not-one : (s : List ℕ) → Bytes s → (at : ℕ) → at < length s → record_at s at ≡ None → NotOne (drop at s)
 not-one s byte at l e = go (record_at s at) (exact s byte at) e
   where
-    go : (x : Reading) → Exact s at x → x ≡ NoRecord → NotOne (drop at s)
+    go : (x : Option Whole) → Exact s at x → x ≡ None → NotOne (drop at s)
     go x (read r rest h d) f = let z : ◌≡◌ {A = ℕ} 0 1 = cc in absurd (omega arith)
     go x (refused n) f = record { some = λ z. let y : length (drop at s) ≡ 0 = ap length z in omega (arith, length-drop at s); none = n }
 

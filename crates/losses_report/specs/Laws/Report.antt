@@ -1,11 +1,11 @@
 -- What passes tell is the report of the whole input, and a report and a pass are each the only one of their bytes.
-use Rattle.std.specs.Prelude.{ℕ, zero, suc, ◌+◌, ◌≤◌, ◌<◌, ◌≡◌, refl, List, [], ◌∷◌, ◌++◌, Bool, true, false, length, get_or, take, drop}
+use Rattle.record_reader.specs.declared.Whole.{Whole}
+use Rattle.std.specs.Prelude.{ℕ, zero, suc, ◌+◌, ◌≤◌, ◌<◌, ◌≡◌, refl, List, [], ◌∷◌, ◌++◌, Bool, true, false, length, get_or, take, drop, Option}
 use Rattle.std.proofs.Common.{arith, ap, sym, ◌∙◌, subst, append_assoc, append-nil, length-append, take-append-drop, get_or-append-add}
 use Rattle.std.proofs.Math.Seq.{drop-append-add, take-append_seam}
 use Rattle.std.proofs.lemmas.List.{take-append-le}
 use Rattle.record.specs.Operation.{Record}
 use Rattle.record.specs.Fields.{encode, valid}
-use Rattle.record_reader.specs.declared.Reading.{Reading}
 use Rattle.buffer.specs.Numeral.{Bytes}
 use Rattle.record_reader.specs.Code.Reader.{record_at}
 use Rattle.record_reader.specs.Answer.{Exact, read, refused}
@@ -110,7 +110,7 @@ report-exists s byte at = go (suc (length s)) s byte at (omega arith)
     go (suc f) [] byte at h = ([], ends)
     go (suc f) (b ∷ t) byte at h = at-start (record_at (b ∷ t) 0) (exact (b ∷ t) byte 0) (go f)
       where
-        at-start : (x : Reading) → Exact (b ∷ t) 0 x → ((s : List ℕ) → Bytes s → (at : ℕ) → length s < f → (o : List ℕ) × Report at s o) → (o : List ℕ) × Report at (b ∷ t) o
+        at-start : (x : Option Whole) → Exact (b ∷ t) 0 x → ((s : List ℕ) → Bytes s → (at : ℕ) → length s < f → (o : List ℕ) × Report at s o) → (o : List ℕ) × Report at (b ∷ t) o
         at-start x (read r rest v d) ih =
             let l : suc (length t) ≡ length (encode r) + length rest = ap length d ∙ length-append (encode r) rest in
             let y : Bytes rest = λ i. subst (λ (n : ℕ). n < 256) (ap (λ (l : List ℕ). get_or l (length (encode r) + i) 0) d ∙ get_or-append-add (encode r) rest i 0) (byte (length (encode r) + i)) in

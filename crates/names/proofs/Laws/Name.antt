@@ -1,12 +1,12 @@
 -- Laws of names (document 01, "Names and paths"): the test of a name says exactly what the document's sentence says, and to be the
 -- same name is to be equal in lower case (document 02, K2), so an equivalence of texts.
 -- Assumes nothing.
-use Rattle.std.specs.Prelude.{ℕ, zero, suc, ◌+◌, ◌%◌, ◌≤◌, ◌<◌, ◌≡◌, refl, Bool, true, false, not, ◌&&◌, cond, List, [], ◌∷◌, ◌++◌, map, length, get_or, drop, replicate, leb, eqb}
+use Rattle.std.specs.Prelude.{ℕ, zero, suc, ◌+◌, ◌%◌, ◌≤◌, ◌<◌, ◌≡◌, refl, Bool, true, false, not, ◌&&◌, cond, List, [], ◌∷◌, ◌++◌, map, length, get_or, drop, replicate, leb, eqb, Result, Ok, Err}
 use Rattle.std.proofs.Common.{suc-le-suc, sym, ap, ap₂, ◌∙◌, le_of_suc-le-suc, not-suc-le-zero, add-one, arith, drop-cons, le-leb, leb-true, eq-eqb, ne_eqb, eqb-true}
 use Rattle.std.proofs.Math.Bool.{and-eq-true_iff, and-false}
 use Rattle.std.proofs.lemmas.Bool.{false≢true, lt-leb, eqb-false, not-true}
-use Rattle.names.specs.declared.NameText.{NameText}
-use Rattle.names.specs.declared.NameText.TheVariants.{Fine, Bad, Long}
+use Rattle.names.specs.declared.NameError.{NameError}
+use Rattle.names.specs.declared.NameError.TheVariants.{Bad, Long}
 use Rattle.names.specs.Name.{permitted_byte, all_permitted, is_dots, good_text, valid_name, name_text_of, lower_case, same_name}
 
 -- A byte that is permitted is neither 0 nor a slash.
@@ -44,21 +44,21 @@ at_all (b ∷ bs) h =
     (h 0 (omega arith), at_all bs (λ i k. h (suc i) (suc-le-suc k)))
 
 -- The text is fine only where it is a valid name.
-pub fine-valid : (s : List ℕ) → name_text_of s ≡ Fine → valid_name s ≡ true
+pub fine-valid : (s : List ℕ) → name_text_of s ≡ Ok (tt {0}) → valid_name s ≡ true
 unfolding name_text_of valid_name
 fine-valid s e = go (good_text s) (leb (length s) 60) e
   where
-    go : (g l : Bool) → cond g (cond l Fine Long) Bad ≡ Fine → g && l ≡ true
+    go : (g l : Bool) → cond g (cond l (Ok (tt {0})) (Err Long)) (Err Bad) ≡ Ok (tt {0}) → g && l ≡ true
     go true true e = refl
     go true false e = cc
     go false l e = cc
 
 -- The text is fine wherever it is a valid name.
-pub valid-fine : (s : List ℕ) → valid_name s ≡ true → name_text_of s ≡ Fine
+pub valid-fine : (s : List ℕ) → valid_name s ≡ true → name_text_of s ≡ Ok (tt {0})
 unfolding name_text_of valid_name
 valid-fine s e = go (good_text s) (leb (length s) 60) e
   where
-    go : (g l : Bool) → g && l ≡ true → cond g (cond l Fine Long) Bad ≡ Fine
+    go : (g l : Bool) → g && l ≡ true → cond g (cond l (Ok (tt {0})) (Err Long)) (Err Bad) ≡ Ok (tt {0})
     go true true e = refl
     go true false e = cc
     go false l e = cc
@@ -217,14 +217,14 @@ same_step s t i h k = simp (add-one, drop-cons s i 0 h, drop-cons t i 0 k)
 -- Document 01's limits: 60 bytes are fine and 61 are long; "", "." and ".." are bad, "..." is fine; 61 bytes with a slash are
 -- bad and not long.
 pub name-examples :
-    (name_text_of (replicate 60 97) ≡ Fine)
-    × (name_text_of (replicate 61 97) ≡ Long)
-    × (name_text_of [] ≡ Bad)
-    × (name_text_of (46 ∷ []) ≡ Bad)
-    × (name_text_of (46 ∷ 46 ∷ []) ≡ Bad)
-    × (name_text_of (46 ∷ 46 ∷ 46 ∷ []) ≡ Fine)
-    × (name_text_of (97 ∷ 0 ∷ []) ≡ Bad)
-    × (name_text_of (replicate 60 97 ++ (47 ∷ [])) ≡ Bad)
+    (name_text_of (replicate 60 97) ≡ Ok (tt {0}))
+    × (name_text_of (replicate 61 97) ≡ Err Long)
+    × (name_text_of [] ≡ Err Bad)
+    × (name_text_of (46 ∷ []) ≡ Err Bad)
+    × (name_text_of (46 ∷ 46 ∷ []) ≡ Err Bad)
+    × (name_text_of (46 ∷ 46 ∷ 46 ∷ []) ≡ Ok (tt {0}))
+    × (name_text_of (97 ∷ 0 ∷ []) ≡ Err Bad)
+    × (name_text_of (replicate 60 97 ++ (47 ∷ [])) ≡ Err Bad)
 unfolding name_text_of good_text is_dots all_permitted permitted_byte
 name-examples = (refl, refl, refl, refl, refl, refl, refl, refl)
 
@@ -245,21 +245,26 @@ unfolding same_name lower_case
 case-examples = (refl, refl, refl, refl, refl, refl, refl, refl, refl, refl)
 
 -- a text that is not fine is no valid name
-pub not-fine : (t : List ℕ) (x : NameText) → name_text_of t ≡ x → (x ≡ Fine → ⊥) → valid_name t ≡ false
+pub not-fine : (t : List ℕ) (x : Result (Unit {0}) NameError) → name_text_of t ≡ x → (x ≡ Ok (tt {0}) → ⊥) → valid_name t ≡ false
 not-fine t x e n = go (valid_name t) refl
   where
     go : (b : Bool) → valid_name t ≡ b → valid_name t ≡ false
     go true v = absurd (n (sym e ∙ valid-fine t v))
     go false v = v
 
-bad-not-fine : Bad ≡ Fine → ⊥
+bad-not-fine : ◌≡◌ {A = Result (Unit {0}) NameError} (Err Bad) (Ok tt) → ⊥
 bad-not-fine e = let z : ◌≡◌ {A = ℕ} 0 1 = cc in omega arith
 
-long-not-fine : Long ≡ Fine → ⊥
+long-not-fine : ◌≡◌ {A = Result (Unit {0}) NameError} (Err Long) (Ok tt) → ⊥
 long-not-fine e = let z : ◌≡◌ {A = ℕ} 0 1 = cc in omega arith
 
-pub bad-invalid : (t : List ℕ) → name_text_of t ≡ Bad → valid_name t ≡ false
-bad-invalid t e = not-fine t Bad e bad-not-fine
+pub bad-invalid : (t : List ℕ) → name_text_of t ≡ Err Bad → valid_name t ≡ false
+bad-invalid t e = not-fine t (Err Bad) e bad-not-fine
 
-pub long-invalid : (t : List ℕ) → name_text_of t ≡ Long → valid_name t ≡ false
-long-invalid t e = not-fine t Long e long-not-fine
+pub long-invalid : (t : List ℕ) → name_text_of t ≡ Err Long → valid_name t ≡ false
+long-invalid t e = not-fine t (Err Long) e long-not-fine
+
+-- a text with an error is no valid name
+pub error-invalid : (t : List ℕ) (e : NameError) → name_text_of t ≡ Err e → valid_name t ≡ false
+error-invalid t Bad e = bad-invalid t e
+error-invalid t Long e = long-invalid t e

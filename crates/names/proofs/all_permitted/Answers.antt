@@ -26,19 +26,17 @@ module _ (s : List ℕ) (i : ℕ) (inv : all_permitted s ≡ all_permitted (drop
   unfolding all_permitted
   ended h = sym (rw (drop_of_length-le s h) at inv)
 
-pub loop-i-init : goal.loop-i-init
-loop-i-init c = (omega arith, refl)
+pub loop-b-init : goal.loop-b-init
+loop-b-init c = refl
 
-pub returns-then-s-i-eq0 : goal.returns-then-s-i-eq0
-returns-then-s-i-eq0 c = let l = c.loop-i in zero-or-slash _ l.i l.invariant.1 (omega arith) (λ z. omega arith)
+pub returns-then-b-eq0 : goal.returns-then-b-eq0
+returns-then-b-eq0 c = let l = c.loop-b in zero-or-slash _ l.b-index l.invariant (omega arith) (λ z. omega arith)
 
-pub returns-then-s-i-eq47 : goal.returns-then-s-i-eq47
-returns-then-s-i-eq47 c = let l = c.loop-i in zero-or-slash _ l.i l.invariant.1 (omega arith) (λ z. omega arith)
+pub returns-then-b-eq47 : goal.returns-then-b-eq47
+returns-then-b-eq47 c = let l = c.loop-b in zero-or-slash _ l.b-index l.invariant (omega arith) (λ z. omega arith)
 
-pub loop-i-preserved : goal.loop-i-preserved
-loop-i-preserved c =
-    let l = c.loop-i in
-    (omega arith, other _ l.i l.invariant.1 (omega arith) (omega arith) (omega arith))
+pub loop-b-preserved : goal.loop-b-preserved
+loop-b-preserved c = let l = c.loop-b in other _ l.b-index l.invariant (omega arith) (omega arith) (omega arith)
 
 pub returns : goal.returns
-returns c = let l = c.loop-i in ended _ l.i l.invariant.1 (omega arith)
+returns c = let l = c.loop-b in ended _ l.b-index l.invariant (omega arith)

@@ -7,29 +7,30 @@ use mathlib.Core.Path.{◌≡◌, sym, ◌∙◌}
 use native.Mathlib.Omega.{arith}
 use lib.ListN.{length}
 use borrow.Author.Tests.{le-leb, lt-leb}
-use Rattle.names.specs.declared.NameText.TheVariants.{Fine, Bad, Long}
+use Rattle.std.specs.Prelude.{Ok, Err}
+use Rattle.names.specs.declared.NameError.TheVariants.{Bad, Long}
 use Rattle.names.specs.Name.{all_permitted, is_dots, good_text, name_text_of}
 use Rattle.names.proofs.name_text.Goals as goal
 
 module _ (s : List ℕ) where
-  empty : length s ≡ 0 → Bad ≡ name_text_of s
+  empty : length s ≡ 0 → Err Bad ≡ name_text_of s
   unfolding name_text_of good_text
   empty h = simp (lt-leb 1 (length s) (omega arith))
 
-  dotted : is_dots s ≡ true → Bad ≡ name_text_of s
+  dotted : is_dots s ≡ true → Err Bad ≡ name_text_of s
   unfolding name_text_of good_text
   dotted d = simp (d, and-false)
 
-  unpermitted : all_permitted s ≡ false → Bad ≡ name_text_of s
+  unpermitted : all_permitted s ≡ false → Err Bad ≡ name_text_of s
   unfolding name_text_of good_text
   unpermitted p = simp (p, and-false)
 
   module _ (some : length s ≡ 0 → ⊥) (d : is_dots s ≡ false) (p : all_permitted s ≡ true) where
-    fine : length s ≤ 60 → Fine ≡ name_text_of s
+    fine : length s ≤ 60 → Ok (tt {0}) ≡ name_text_of s
     unfolding name_text_of good_text
     fine h = simp (le-leb 1 (length s) (omega arith), d, p, le-leb (length s) 60 h)
 
-    long : 60 < length s → Long ≡ name_text_of s
+    long : 60 < length s → Err Long ≡ name_text_of s
     unfolding name_text_of good_text
     long h = simp (le-leb 1 (length s) (omega arith), d, p, lt-leb (length s) 60 h)
 

@@ -30,15 +30,15 @@ pub returns-then-a-b : goal.returns-then-a-b
 returns-then-a-b c = sym (lengths_differ _ _ c.if-a-b.true)
 
 pub loop-i-init : goal.loop-i-init
-loop-i-init c = (omega arith, refl)
+loop-i-init c = refl
 
 pub returns-then-lower_case : goal.returns-then-lower_case
 returns-then-lower_case c =
-    other _ _ c.if-a-b.false _ c.loop-i.invariant.1 (omega arith) _ _ c.lower_case.ensures c.lower_case-in-loop-i.ensures c.if-lower_case.true
+    other _ _ c.if-a-b.false _ c.loop-i.invariant (omega arith) _ _ c.lower_case.ensures c.lower_case-in-loop-i.ensures c.if-lower_case.true
 
 pub loop-i-preserved : goal.loop-i-preserved
 loop-i-preserved c =
-    (omega arith, equal _ _ c.if-a-b.false _ c.loop-i.invariant.1 (omega arith) _ _ c.lower_case.ensures c.lower_case-in-loop-i.ensures c.if-lower_case.false)
+    equal _ _ c.if-a-b.false _ c.loop-i.invariant (omega arith) _ _ c.lower_case.ensures c.lower_case-in-loop-i.ensures c.if-lower_case.false
 
 pub returns : goal.returns
-returns c = ended _ _ c.if-a-b.false c.loop-i.i c.loop-i.invariant.1 (omega arith)
+returns c = ended _ _ c.if-a-b.false c.loop-i.i c.loop-i.invariant (omega arith)

@@ -37,25 +37,16 @@ module _ (p : List ℕ) (at : ℕ) where
     ended h = sym (rw (up-end p i h, append-nil) at inv)
 
 pub loop-i-init : goal.loop-i-init
-loop-i-init c = (omega arith, omega arith, none c.args.path.now c.args.at)
+loop-i-init c = none c.args.path.now c.args.at
 
 pub returns-then-path-i-eq47 : goal.returns-then-path-i-eq47
-returns-then-path-i-eq47 c = (
-  c.loop-i.invariant.0,
-  c.loop-i.invariant.1,
-  slash _ _ _ c.loop-i.invariant.2 c.loop-i-test.true c.if-path-i-eq47.true,
-)
+returns-then-path-i-eq47 c = (omega arith, omega arith, slash c.args.path.now c.args.at c.loop-i.i c.loop-i.invariant (omega arith) c.if-path-i-eq47.true)
 
 pub loop-i-preserved : goal.loop-i-preserved
-loop-i-preserved c = (
-  omega arith,
-  omega arith,
-  more _ _ _ c.loop-i.invariant.2 c.loop-i.invariant.0 c.loop-i-test.true c.if-path-i-eq47.false,
-)
+loop-i-preserved c = more c.args.path.now c.args.at c.loop-i.i c.loop-i.invariant (omega arith) (omega arith) c.if-path-i-eq47.false
 
 pub returns : goal.returns
-returns c = (
-  c.loop-i.invariant.0,
-  c.loop-i.invariant.1,
-  ended _ _ c.loop-i.i c.loop-i.invariant.2 (omega arith),
-)
+returns c =
+    let p = c.args.path.now in
+    let e : c.loop-i.i ≡ length p = omega arith in
+    (c.requires, omega arith, rw e at (ended p c.args.at c.loop-i.i c.loop-i.invariant (omega arith)))

@@ -1,12 +1,12 @@
 -- Laws of paths (document 01, "Names and paths"): the components of a path, put behind a slash each, are the path again; no
 -- component has a slash; and where one component ends and the next begins.
 -- Assumes nothing.
-use Rattle.std.specs.Prelude.{ℕ, zero, suc, ◌+◌, ◌-◌, ◌≤◌, ◌<◌, ◌≡◌, refl, Bool, true, false, ◌&&◌, cond, List, [], ◌∷◌, length, get_or, take, drop, replicate, leb, ltb, eqb}
+use Rattle.std.specs.Prelude.{ℕ, zero, suc, ◌+◌, ◌-◌, ◌≤◌, ◌<◌, ◌≡◌, refl, Bool, true, false, ◌&&◌, cond, List, [], ◌∷◌, length, get_or, take, drop, replicate, leb, ltb, eqb, None, Some}
 use Rattle.std.proofs.Common.{sym, ap, ◌∙◌, le_of_suc-le-suc, not-suc-le-zero, add_assoc, add-one, arith, length-drop, drop_of_length-le, drop-cons, drop-drop, lt-ltb, le-ltb, ltb-true, ltb-false, leb-true, le-leb, eq-eqb, ne_eqb, eqb-true}
 use Rattle.std.proofs.Math.Bool.{and-eq-true_iff}
 use Rattle.std.proofs.Math.Dec.{leb-suc-suc}
 use Rattle.std.proofs.lemmas.Bool.{eqb-false}
-use Rattle.paths.specs.declared.PathText.TheVariants.{Bad, Root, Components}
+use Rattle.paths.specs.declared.PathText.TheVariants.{Root, Components}
 use Rattle.paths.specs.Path.{path_text_of, up_to_slash, component_at, on_first, split, components, joined}
 
 -- ---- the bytes before the first slash
@@ -142,7 +142,7 @@ good-path p e =
     (h, leb-true (length p) 1023 r.0, starts p h (eqb-true (get_or p 0 0) 47 r.1))
 
 -- A path with components has 2 to 1,023 bytes, the first a slash.
-pub components-path : (p : List ℕ) → path_text_of p ≡ Components → (2 ≤ length p) × (length p ≤ 1023) × (p ≡ 47 ∷ drop 1 p)
+pub components-path : (p : List ℕ) → path_text_of p ≡ Some Components → (2 ≤ length p) × (length p ≤ 1023) × (p ≡ 47 ∷ drop 1 p)
 unfolding path_text_of
 components-path p e =
     let c = pick (leb 1 (length p) && (leb (length p) 1023 && eqb (get_or p 0 0) 47)) (eqb (length p) 1) e in
@@ -150,13 +150,13 @@ components-path p e =
     let n = eqb-false (length p) 1 c.1 in
     (omega arith, g.1, g.2)
   where
-    pick : (g r : Bool) → cond g (cond r Root Components) Bad ≡ Components → (g ≡ true) × (r ≡ false)
+    pick : (g r : Bool) → cond g (cond r (Some Root) (Some Components)) None ≡ Some Components → (g ≡ true) × (r ≡ false)
     pick true true e = (refl, cc)
     pick true false e = (refl, refl)
     pick false r e = (cc, cc)
 
 -- A text of 2 to 1,023 bytes, the first a slash, is a path with components.
-pub path_components : (p : List ℕ) → 2 ≤ length p → length p ≤ 1023 → get_or p 0 0 ≡ 47 → path_text_of p ≡ Components
+pub path_components : (p : List ℕ) → 2 ≤ length p → length p ≤ 1023 → get_or p 0 0 ≡ 47 → path_text_of p ≡ Some Components
 unfolding path_text_of
 path_components p l m e =
     simp (
@@ -167,7 +167,7 @@ path_components p l m e =
     )
 
 -- The path of the root is a slash alone.
-pub root-path : (p : List ℕ) → path_text_of p ≡ Root → p ≡ 47 ∷ []
+pub root-path : (p : List ℕ) → path_text_of p ≡ Some Root → p ≡ 47 ∷ []
 unfolding path_text_of
 root-path p e =
     let c = pick (leb 1 (length p) && (leb (length p) 1023 && eqb (get_or p 0 0) 47)) (eqb (length p) 1) e in
@@ -175,13 +175,13 @@ root-path p e =
     let n = eqb-true (length p) 1 c.1 in
     g.2 ∙ ap (λ (r : List ℕ). 47 ∷ r) (drop_of_length-le p {i = 1} (omega arith))
   where
-    pick : (g r : Bool) → cond g (cond r Root Components) Bad ≡ Root → (g ≡ true) × (r ≡ true)
+    pick : (g r : Bool) → cond g (cond r (Some Root) (Some Components)) None ≡ Some Root → (g ≡ true) × (r ≡ true)
     pick true true e = (refl, refl)
     pick true false e = (refl, cc)
     pick false r e = (cc, cc)
 
 -- The components of a path, each behind a slash, are the path: nothing is lost and nothing is shortened.
-pub joined-components : (p : List ℕ) → path_text_of p ≡ Components → joined (components p) ≡ p
+pub joined-components : (p : List ℕ) → path_text_of p ≡ Some Components → joined (components p) ≡ p
 unfolding components
 joined-components p e = joined-split (drop 1 p) ∙ sym (components-path p e).2
 
@@ -215,12 +215,12 @@ split-place p at h =
 
 -- Doubled and trailing slashes give an empty name; 1,023 bytes are a path, and 1,024 are not.
 pub path-examples :
-    (path_text_of [] ≡ Bad)
-    × (path_text_of (97 ∷ []) ≡ Bad)
-    × (path_text_of (47 ∷ []) ≡ Root)
-    × (path_text_of (47 ∷ 47 ∷ []) ≡ Components)
-    × (path_text_of (47 ∷ replicate 1022 97) ≡ Components)
-    × (path_text_of (47 ∷ replicate 1023 97) ≡ Bad)
+    (path_text_of [] ≡ None)
+    × (path_text_of (97 ∷ []) ≡ None)
+    × (path_text_of (47 ∷ []) ≡ Some Root)
+    × (path_text_of (47 ∷ 47 ∷ []) ≡ Some Components)
+    × (path_text_of (47 ∷ replicate 1022 97) ≡ Some Components)
+    × (path_text_of (47 ∷ replicate 1023 97) ≡ None)
     × (components (47 ∷ 97 ∷ []) ≡ (97 ∷ []) ∷ [])
     × (components (47 ∷ 47 ∷ []) ≡ [] ∷ [] ∷ [])
     × (components (47 ∷ 102 ∷ 47 ∷ []) ≡ (102 ∷ []) ∷ [] ∷ [])

@@ -4,7 +4,7 @@ use Rattle.std.proofs.Common.{arith, sym, ap, ap₂, ◌∙◌, subst, append_as
 use Rattle.std.proofs.Math.Bool.{and-eq-true_iff}
 use Rattle.std.proofs.lemmas.Bool.{false≢true}
 use Rattle.std.proofs.lemmas.List.{append_cancel_left}
-use Rattle.std.proofs.Math.Option.{Option, none, some}
+use Rattle.std.specs.Prelude.{Option, None, Some}
 use Rattle.names.specs.Name.{valid_name}
 use Rattle.record.specs.Kind.{code_of, kind_of_code}
 use Rattle.buffer.specs.Numeral.{bytes, numeral}
@@ -32,15 +32,15 @@ with-begins [] rest = refl
 with-begins (b ∷ t) rest = rw (eq-eqb b b refl) (with-begins t rest)
 
 -- what bytes decode to is valid, and they begin with its bytes
-pub decode-sound : (s : List ℕ) (r : Record) → decode_record s ≡ some r → (valid r ≡ true) × ((rest : List ℕ) × (s ≡ encode r ++ rest))
+pub decode-sound : (s : List ℕ) (r : Record) → decode_record s ≡ Some r → (valid r ≡ true) × ((rest : List ℕ) × (s ≡ encode r ++ rest))
 unfolding decode_record
 decode-sound s r e = go (read_record s) e
   where
-    go : (x : Option Record) → if_encoded s x ≡ some r → (valid r ≡ true) × ((rest : List ℕ) × (s ≡ encode r ++ rest))
-    go none d = let z : ◌≡◌ {A = ℕ} 0 1 = cc in absurd (omega arith)
-    go (some q) d = tested (valid q && begins s (encode q)) refl d
+    go : (x : Option Record) → if_encoded s x ≡ Some r → (valid r ≡ true) × ((rest : List ℕ) × (s ≡ encode r ++ rest))
+    go None d = let z : ◌≡◌ {A = ℕ} 0 1 = cc in absurd (omega arith)
+    go (Some q) d = tested (valid q && begins s (encode q)) refl d
       where
-        tested : (t : Bool) → (valid q && begins s (encode q)) ≡ t → cond t (some q) none ≡ some r → (valid r ≡ true) × ((rest : List ℕ) × (s ≡ encode r ++ rest))
+        tested : (t : Bool) → (valid q && begins s (encode q)) ≡ t → cond t (Some q) None ≡ Some r → (valid r ≡ true) × ((rest : List ℕ) × (s ≡ encode r ++ rest))
         tested false h d = let z : ◌≡◌ {A = ℕ} 0 1 = cc in absurd (omega arith)
         tested true h d =
             let is : q ≡ r = cc in
@@ -138,7 +138,7 @@ head_read m sequence program code rest hm hs hp hc =
     (numeral-bytes 2 m (omega arith), numeral-bytes 4 sequence hs, numeral-bytes 1 program (omega arith), numeral-bytes 1 code (omega arith), refl)
 
 -- a valid record is read back from its bytes
-record-read : (r : Record) (rest : List ℕ) → valid r ≡ true → read_record (encode r ++ rest) ≡ some r
+record-read : (r : Record) (rest : List ℕ) → valid r ≡ true → read_record (encode r ++ rest) ≡ Some r
 unfolding read_record encode valid_head
 record-read r rest h =
     let o = r.operation in
@@ -153,26 +153,26 @@ record-read r rest h =
     rw (append_assoc (head_bytes m r.sequence r.program c) f rest, hd.3, kind-of-code (kind_of o), hd.0, hd.1, hd.2, hd.4, op)
 
 -- the bytes of a valid record decode to it, whatever is behind them
-pub decode-encoded : (r : Record) (rest : List ℕ) → valid r ≡ true → decode_record (encode r ++ rest) ≡ some r
+pub decode-encoded : (r : Record) (rest : List ℕ) → valid r ≡ true → decode_record (encode r ++ rest) ≡ Some r
 unfolding decode_record
 decode-encoded r rest h = rw (record-read r rest h, h, with-begins (encode r) rest)
 
 -- no bytes begin with two valid records
 pub encode-unique : (r q : Record) (t u : List ℕ) → valid r ≡ true → valid q ≡ true → encode r ++ t ≡ encode q ++ u → (r ≡ q) × (t ≡ u)
 encode-unique r q t u h k e =
-    let a : decode_record (encode r ++ t) ≡ some r = decode-encoded r t h in
-    let b : decode_record (encode r ++ t) ≡ some q = ap decode_record e ∙ decode-encoded q u k in
+    let a : decode_record (encode r ++ t) ≡ Some r = decode-encoded r t h in
+    let b : decode_record (encode r ++ t) ≡ Some q = ap decode_record e ∙ decode-encoded q u k in
     let is : r ≡ q = cc in
     (is, append_cancel_left (encode q) t u (subst (λ (y : Record). encode y ++ t ≡ encode q ++ u) is e))
 
 -- "C12 bytes 0 1 7 0 0 0 3 8 2 5 0 6 0 are forder 7 by program 3 on 5 and 6", also with bytes behind them; another map, a list
 -- cut short, the code of no kind, and program 32 are refused
 pub decode-examples :
-    (decode_record (0 ∷ 1 ∷ 7 ∷ 0 ∷ 0 ∷ 0 ∷ 3 ∷ 8 ∷ 2 ∷ 5 ∷ 0 ∷ 6 ∷ 0 ∷ []) ≡ some (record { sequence = 7; program = 3; operation = forder (5 ∷ 6 ∷ []) }))
-    × (decode_record (0 ∷ 1 ∷ 7 ∷ 0 ∷ 0 ∷ 0 ∷ 3 ∷ 8 ∷ 2 ∷ 5 ∷ 0 ∷ 6 ∷ 0 ∷ 9 ∷ []) ≡ some (record { sequence = 7; program = 3; operation = forder (5 ∷ 6 ∷ []) }))
-    × (decode_record (1 ∷ 1 ∷ 7 ∷ 0 ∷ 0 ∷ 0 ∷ 3 ∷ 8 ∷ 2 ∷ 5 ∷ 0 ∷ 6 ∷ 0 ∷ []) ≡ none)
-    × (decode_record (0 ∷ 1 ∷ 7 ∷ 0 ∷ 0 ∷ 0 ∷ 3 ∷ 8 ∷ 2 ∷ 5 ∷ 0 ∷ 6 ∷ []) ≡ none)
-    × (decode_record (0 ∷ 1 ∷ 7 ∷ 0 ∷ 0 ∷ 0 ∷ 3 ∷ 9 ∷ 2 ∷ 5 ∷ 0 ∷ 6 ∷ 0 ∷ []) ≡ none)
-    × (decode_record (0 ∷ 1 ∷ 7 ∷ 0 ∷ 0 ∷ 0 ∷ 32 ∷ 8 ∷ 2 ∷ 5 ∷ 0 ∷ 6 ∷ 0 ∷ []) ≡ none)
+    (decode_record (0 ∷ 1 ∷ 7 ∷ 0 ∷ 0 ∷ 0 ∷ 3 ∷ 8 ∷ 2 ∷ 5 ∷ 0 ∷ 6 ∷ 0 ∷ []) ≡ Some (record { sequence = 7; program = 3; operation = forder (5 ∷ 6 ∷ []) }))
+    × (decode_record (0 ∷ 1 ∷ 7 ∷ 0 ∷ 0 ∷ 0 ∷ 3 ∷ 8 ∷ 2 ∷ 5 ∷ 0 ∷ 6 ∷ 0 ∷ 9 ∷ []) ≡ Some (record { sequence = 7; program = 3; operation = forder (5 ∷ 6 ∷ []) }))
+    × (decode_record (1 ∷ 1 ∷ 7 ∷ 0 ∷ 0 ∷ 0 ∷ 3 ∷ 8 ∷ 2 ∷ 5 ∷ 0 ∷ 6 ∷ 0 ∷ []) ≡ None)
+    × (decode_record (0 ∷ 1 ∷ 7 ∷ 0 ∷ 0 ∷ 0 ∷ 3 ∷ 8 ∷ 2 ∷ 5 ∷ 0 ∷ 6 ∷ []) ≡ None)
+    × (decode_record (0 ∷ 1 ∷ 7 ∷ 0 ∷ 0 ∷ 0 ∷ 3 ∷ 9 ∷ 2 ∷ 5 ∷ 0 ∷ 6 ∷ 0 ∷ []) ≡ None)
+    × (decode_record (0 ∷ 1 ∷ 7 ∷ 0 ∷ 0 ∷ 0 ∷ 32 ∷ 8 ∷ 2 ∷ 5 ∷ 0 ∷ 6 ∷ 0 ∷ []) ≡ None)
 unfolding decode_record read_record read_parts number counted begins kind_of_code numeral objects_of bytes encode fields object_fields name_fields range_fields head_bytes pairs valid valid_head valid_parts valid_objects valid_names valid_range valid_list member different all_up_to tied differing in_block
 decode-examples = (refl, refl, refl, refl, refl, refl)

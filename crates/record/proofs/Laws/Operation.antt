@@ -1,7 +1,7 @@
 -- What an operation's operands and map say of it. Assumes nothing.
 use Rattle.std.specs.Prelude.{ℕ, ◌≡◌, refl, ◌⊎◌, [], ◌∷◌, false}
 use Rattle.std.proofs.Common.{arith, ap, inl, inr}
-use Rattle.std.proofs.Math.Option.{none, some}
+use Rattle.std.specs.Prelude.{None, Some}
 use Rattle.record.specs.Operation.{Operation, create_file, make_directory, remove, rename, overwrite, append, set_length, forder, map_of, operands, Stretch, overwrite_of}
 use Rattle.record.specs.Fields.{stands_in}
 
@@ -11,10 +11,10 @@ pub record Overwrites (a : Operation) (s : Stretch) : Type 0 where
   pub is : a ≡ overwrite object s.offset s.content
   pub operand : operands a ≡ object ∷ []
 
-no-stretch : {C : Type 0} {s : Stretch} → none ≡ some s → C
+no-stretch : {C : Type 0} {s : Stretch} → None ≡ Some s → C
 no-stretch e = let z : ◌≡◌ {A = ℕ} 0 1 = cc in absurd (omega arith)
 
-pub overwrites : (a : Operation) (s : Stretch) → overwrite_of a ≡ some s → Overwrites a s
+pub overwrites : (a : Operation) (s : Stretch) → overwrite_of a ≡ Some s → Overwrites a s
 unfolding operands
 overwrites (create_file o p n) s e = no-stretch e
 overwrites (make_directory o p n) s e = no-stretch e
@@ -32,8 +32,8 @@ pub one-group : (o : Operation) → ((stands_in (map_of o) 16 ≡ false) × (sta
 one-group (create_file o p n) = inr (refl, refl, refl)
 one-group (make_directory o p n) = inr (refl, refl, refl)
 one-group (remove o p n) = inr (refl, refl, refl)
-one-group (rename o p q none n m) = inr (refl, refl, refl)
-one-group (rename o p q (some d) n m) = inr (refl, refl, refl)
+one-group (rename o p q None n m) = inr (refl, refl, refl)
+one-group (rename o p q (Some d) n m) = inr (refl, refl, refl)
 one-group (overwrite o f b) = inl (refl, refl)
 one-group (append o f b) = inl (refl, refl)
 one-group (set_length o f) = inl (refl, refl)

@@ -3,7 +3,7 @@ use Rattle.std.specs.Prelude.{ℕ, suc, ◌+◌, ◌*◌, ◌-◌, ◌%◌, ◌^
 use Rattle.std.proofs.Common.{arith, sym, ap, ◌∙◌, append-nil, length-append, leb-true, le-leb}
 use Rattle.std.proofs.Math.Decide.{dec_le}
 use Rattle.std.proofs.Math.Bool.{and-eq-true_iff, and-true, and-false}
-use Rattle.std.proofs.Math.Option.{none, some}
+use Rattle.std.specs.Prelude.{None, Some}
 use Rattle.std.proofs.lemmas.Bool.{lt-leb}
 use Rattle.names.specs.Name.{valid_name}
 use Rattle.names.proofs.Laws.Name.{valid-length}
@@ -65,8 +65,8 @@ unfoldable pub fields_length : Operation → ℕ
 fields_length (create_file o p n) = 5 + length n
 fields_length (make_directory o p n) = 5 + length n
 fields_length (remove o p n) = 5 + length n
-fields_length (rename o p q none n m) = 8 + length n + length m
-fields_length (rename o p q (some d) n m) = 10 + length n + length m
+fields_length (rename o p q None n m) = 8 + length n + length m
+fields_length (rename o p q (Some d) n m) = 10 + length n + length m
 fields_length (overwrite o f b) = 8 + length b
 fields_length (append o f b) = 8 + length b
 fields_length (set_length o f) = 6
@@ -86,8 +86,8 @@ unfolding fields_length fields object_fields name_fields range_fields bytes
 fields-length (create_file o p n) = ap (λ (k : ℕ). suc (suc (suc (suc (suc k))))) (ends-twice n) ∙ omega arith
 fields-length (make_directory o p n) = ap (λ (k : ℕ). suc (suc (suc (suc (suc k))))) (ends-twice n) ∙ omega arith
 fields-length (remove o p n) = ap (λ (k : ℕ). suc (suc (suc (suc (suc k))))) (ends-twice n) ∙ omega arith
-fields-length (rename o p q none n m) = ap (λ (k : ℕ). suc (suc (suc (suc (suc (suc (suc k))))))) (two-names n m _) ∙ omega arith
-fields-length (rename o p q (some d) n m) = ap (λ (k : ℕ). suc (suc (suc (suc (suc (suc (suc (suc (suc k))))))))) (two-names n m _) ∙ omega arith
+fields-length (rename o p q None n m) = ap (λ (k : ℕ). suc (suc (suc (suc (suc (suc (suc k))))))) (two-names n m _) ∙ omega arith
+fields-length (rename o p q (Some d) n m) = ap (λ (k : ℕ). suc (suc (suc (suc (suc (suc (suc (suc (suc k))))))))) (two-names n m _) ∙ omega arith
 fields-length (overwrite o f b) = ap (λ (k : ℕ). suc (suc (suc (suc (suc (suc (suc (suc k)))))))) (ends-once b) ∙ omega arith
 fields-length (append o f b) = ap (λ (k : ℕ). suc (suc (suc (suc (suc (suc (suc (suc k)))))))) (ends-once b) ∙ omega arith
 fields-length (set_length o f) = refl
@@ -111,8 +111,8 @@ unfolding fields_length
 fields-bound (create_file o p n) hn hm hb hl = omega (arith, name-short n hn)
 fields-bound (make_directory o p n) hn hm hb hl = omega (arith, name-short n hn)
 fields-bound (remove o p n) hn hm hb hl = omega (arith, name-short n hn)
-fields-bound (rename o p q none n m) hn hm hb hl = omega (arith, name-short n hn, name-short m hm)
-fields-bound (rename o p q (some d) n m) hn hm hb hl = omega (arith, name-short n hn, name-short m hm)
+fields-bound (rename o p q None n m) hn hm hb hl = omega (arith, name-short n hn, name-short m hm)
+fields-bound (rename o p q (Some d) n m) hn hm hb hl = omega (arith, name-short n hn, name-short m hm)
 fields-bound (overwrite o f b) hn hm hb hl = omega (arith, block-short b hb)
 fields-bound (append o f b) hn hm hb hl = omega (arith, block-short b hb)
 fields-bound (set_length o f) hn hm hb hl = omega arith
@@ -138,8 +138,8 @@ pub operation-back : (o : Operation) → operation_of (kind_of o) (map_of o) (un
 operation-back (create_file o p n) = refl
 operation-back (make_directory o p n) = refl
 operation-back (remove o p n) = refl
-operation-back (rename o p q none n m) = refl
-operation-back (rename o p q (some d) n m) = refl
+operation-back (rename o p q None n m) = refl
+operation-back (rename o p q (Some d) n m) = refl
 operation-back (overwrite o f b) = refl
 operation-back (append o f b) = refl
 operation-back (set_length o f) = refl

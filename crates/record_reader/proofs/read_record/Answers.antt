@@ -1,8 +1,9 @@
 -- `record_reader::read_record` meets its contract: what the fields give one after the other is exact, by `Laws/Exact`.
 -- Assumes nothing.
+use Rattle.record_reader.specs.declared.Whole.{Whole}
+use Rattle.std.specs.Prelude.{Option}
 use native.Mathlib.Omega.{arith}
 use mathlib.Core.Path.{sym, subst}
-use Rattle.record_reader.specs.declared.Reading.{Reading}
 use Rattle.record_reader.specs.Answer.{Exact}
 use Rattle.record_reader.specs.Laws.Exact.{exact}
 use Rattle.record_reader.proofs.read_record.Goals as goal
@@ -13,5 +14,5 @@ returns c =
     let at = c.args.at in
     record {
       value = c.record.ensures;
-      exact = subst (λ (y : Reading). Exact s at y) (sym c.record.ensures) (exact s (λ i. omega (arith, c.type_inv.s i)) at);
+      exact = subst (λ (y : Option Whole). Exact s at y) (sym c.record.ensures) (exact s (λ i. omega (arith, c.type_inv.s i)) at);
     }

@@ -1,6 +1,6 @@
 -- "Records fit n and b", asked of a record that was read at a place of a buffer.
 use Rattle.std.specs.Prelude.{ℕ, List, Bool, false, ◌&&◌, ltb}
-use Rattle.std.proofs.Math.Option.{Option, none, some}
+use Rattle.std.specs.Prelude.{Option, None, Some}
 use Rattle.record_reader.specs.declared.Objects.{Objects}
 use Rattle.record_reader.specs.declared.Whole.{Whole}
 use Rattle.record.specs.Operation.{Record}
@@ -9,8 +9,8 @@ use Rattle.buffer.specs.Code.Span.{stretch}
 
 -- the record of a place fits; where there is none, it does not
 abbrev pub fits_decoded : ℕ → ℕ → Option Record → Bool
-fits_decoded n b none = false
-fits_decoded n b (some r) = fits n b r
+fits_decoded n b None = false
+fits_decoded n b (Some r) = fits n b r
 
 -- an object is below n, where its bit stands
 abbrev pub below_if : ℕ → ℕ → ℕ → ℕ → Bool

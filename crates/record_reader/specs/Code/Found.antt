@@ -1,12 +1,10 @@
 -- The record that the reader found in a buffer.
 use Rattle.std.specs.Prelude.{ℕ, List}
-use Rattle.std.proofs.Math.Option.{Option, none, some}
+use Rattle.std.specs.Prelude.{Option, None, Some}
 use Rattle.record_reader.specs.declared.Objects.{Objects}
 use Rattle.record_reader.specs.declared.Names.{Names}
 use Rattle.record_reader.specs.declared.Range.{Range}
 use Rattle.record_reader.specs.declared.Whole.{Whole}
-use Rattle.record_reader.specs.declared.Reading.{Reading}
-use Rattle.record_reader.specs.declared.Reading.TheVariants.{Is as RecordIs, Bad as NoRecord}
 use Rattle.record.specs.Operation.{Record}
 use Rattle.buffer.specs.Code.Span.{stretch}
 use Rattle.record.specs.Fields.{Parts, parted, objects_of, operation_of}
@@ -26,9 +24,9 @@ record_from s w =
       operation = operation_of w.head.kind w.head.map (parts_from s w.objects w.names w.range);
     }
 
-abbrev pub decoded : List ℕ → Reading → Option Record
-decoded s (RecordIs w) = some (record_from s w)
-decoded s NoRecord = none
+abbrev pub decoded : List ℕ → Option Whole → Option Record
+decoded s (Some w) = Some (record_from s w)
+decoded s None = None
 
 -- the valid record whose bytes begin at a place, if there is one
 unfoldable pub decode_at : List ℕ → ℕ → Option Record

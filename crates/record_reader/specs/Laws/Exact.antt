@@ -1,12 +1,10 @@
 -- The reader's contract, both ways, and the one record that some bytes begin with.
-use Rattle.std.specs.Prelude.{ℕ, ◌+◌, ◌≡◌, Bool, ◌&&◌, List, ◌++◌, length, drop}
+use Rattle.std.specs.Prelude.{ℕ, ◌+◌, ◌≡◌, Bool, ◌&&◌, List, ◌++◌, length, drop, None}
 use Rattle.std.proofs.Common.{arith, sym, ◌∙◌, subst, append_assoc, length-append}
 use Rattle.std.proofs.Math.Path.{refl, ap}
 use Rattle.std.proofs.Math.Bool.{true, false, and-eq-true_iff}
-use Rattle.std.proofs.Math.Option.{Option, some}
+use Rattle.std.specs.Prelude.{Option, Some}
 use Rattle.record_reader.specs.declared.Whole.{Whole}
-use Rattle.record_reader.specs.declared.Reading.{Reading}
-use Rattle.record_reader.specs.declared.Reading.TheVariants.{Is as RecordIs, Bad as NoRecord}
 use Rattle.record.specs.Kind.{code_of}
 use Rattle.buffer.specs.Numeral.{bytes, Bytes}
 use Rattle.buffer.specs.Laws.Numeral.{length-bytes}
@@ -26,12 +24,12 @@ use Rattle.record_reader.specs.Code.Found.{parts_from, record_from, decoded, dec
 pub exact : (s : List ℕ) → Bytes s → (at : ℕ) → Exact s at (record_at s at)
 exact s byte at = go (record_at s at) refl
   where
-    go : (x : Reading) → record_at s at ≡ x → Exact s at x
-    go (RecordIs w) e =
+    go : (x : Option Whole) → record_at s at ≡ x → Exact s at x
+    go (Some w) e =
         let f = record-sound s byte at w e in
-        subst (λ (y : Whole). Exact s at (RecordIs y)) f.answered (read f.found (drop w.next.at s) f.good f.spans.begins)
-    go NoRecord e =
-        refused (λ r rest h d. let c : NoRecord ≡ RecordIs (whole_of r at) = sym e ∙ record-complete s at r rest h d in let z : ◌≡◌ {A = ℕ} 0 1 = cc in omega arith)
+        subst (λ (y : Whole). Exact s at (Some y)) f.answered (read f.found (drop w.next.at s) f.good f.spans.begins)
+    go None e =
+        refused (λ r rest h d. let c : None ≡ Some (whole_of r at) = sym e ∙ record-complete s at r rest h d in let z : ◌≡◌ {A = ℕ} 0 1 = cc in omega arith)
 
 module _ (s : List ℕ) where
   -- a stretch behind a number of w bytes is found where it was said to lie
@@ -94,18 +92,18 @@ record-back s at r rest h e =
     λ i. record { sequence = r.sequence; program = r.program; operation = op i }
 
 -- a valid record's bytes decode to it
-pub decode-encode : (s : List ℕ) (at : ℕ) (r : Record) (rest : List ℕ) → valid r ≡ true → drop at s ≡ encode r ++ rest → decode_at s at ≡ some r
+pub decode-encode : (s : List ℕ) (at : ℕ) (r : Record) (rest : List ℕ) → valid r ≡ true → drop at s ≡ encode r ++ rest → decode_at s at ≡ Some r
 unfolding decode_at
-decode-encode s at r rest h e = ap (decoded s) (record-complete s at r rest h e) ∙ ap {B = Option Record} some (record-back s at r rest h e)
+decode-encode s at r rest h e = ap (decoded s) (record-complete s at r rest h e) ∙ ap {B = Option Record} Some (record-back s at r rest h e)
 
 -- what bytes decode to is valid, and they begin with its bytes
-pub encode-decode : (s : List ℕ) → Bytes s → (at : ℕ) (r : Record) → decode_at s at ≡ some r → (valid r ≡ true) × ((rest : List ℕ) × (drop at s ≡ encode r ++ rest))
+pub encode-decode : (s : List ℕ) → Bytes s → (at : ℕ) (r : Record) → decode_at s at ≡ Some r → (valid r ≡ true) × ((rest : List ℕ) × (drop at s ≡ encode r ++ rest))
 unfolding decode_at
 encode-decode s byte at r e = go (record_at s at) refl e
   where
-    go : (x : Reading) → record_at s at ≡ x → decoded s x ≡ some r → (valid r ≡ true) × ((rest : List ℕ) × (drop at s ≡ encode r ++ rest))
-    go NoRecord f d = let z : ◌≡◌ {A = ℕ} 0 1 = cc in absurd (omega arith)
-    go (RecordIs w) f d =
+    go : (x : Option Whole) → record_at s at ≡ x → decoded s x ≡ Some r → (valid r ≡ true) × ((rest : List ℕ) × (drop at s ≡ encode r ++ rest))
+    go None f d = let z : ◌≡◌ {A = ℕ} 0 1 = cc in absurd (omega arith)
+    go (Some w) f d =
         let g = record-sound s byte at w f in
         let back : record_from s w ≡ g.found = ap (record_from s) (sym g.answered) ∙ record-back s at g.found (drop w.next.at s) g.good g.spans.begins in
         let same : record_from s w ≡ r = cc in

@@ -2,9 +2,8 @@
 use Rattle.std.specs.Prelude.{ℕ, ◌+◌, ◌*◌, ◌≡◌, refl, Bool, true, false, ◌&&◌, List, ◌++◌, length, drop, leb, ltb}
 use Rattle.std.proofs.Common.{sym, ap, ◌∙◌, subst}
 use Rattle.std.proofs.Math.Bool.{and-true, and_assoc}
-use Rattle.std.proofs.Math.Option.{none, some}
+use Rattle.std.specs.Prelude.{None, Some}
 use Rattle.record_reader.specs.declared.Whole.{Whole}
-use Rattle.record_reader.specs.declared.Reading.TheVariants.{Is as RecordIs}
 use Rattle.buffer.specs.Numeral.{Bytes}
 use Rattle.record.specs.Operation.{Operation, create_file, make_directory, remove, rename, overwrite, append, set_length, forder, Record, map_of, operands}
 use Rattle.record.specs.Fields.{Parts, parts, object_fields, name_fields, valid, encode, all_below, within_blocks, fits, objects_of}
@@ -23,8 +22,8 @@ unfolding all_below operands objects_below
 operands-below n (create_file o p k) = sym (and-true _)
 operands-below n (make_directory o p k) = sym (and-true _)
 operands-below n (remove o p k) = sym (and-true _)
-operands-below n (rename o p q none k j) = sym (and-true _)
-operands-below n (rename o p q (some d) k j) = swapped (ltb o n) (ltb p n) (ltb q n) (ltb d n)
+operands-below n (rename o p q None k j) = sym (and-true _)
+operands-below n (rename o p q (Some d) k j) = swapped (ltb o n) (ltb p n) (ltb q n) (ltb d n)
   where
     swapped : (a b c d : Bool) → (a && (b && (c && (d && true)))) ≡ (a && (b && (c && d))) && true
     swapped true true true d = refl
@@ -41,8 +40,8 @@ content-long : (o : Operation) (at : ℕ) → (range_in (map_of o) (parts o) at)
 content-long (create_file o p n) at = refl
 content-long (make_directory o p n) at = refl
 content-long (remove o p n) at = refl
-content-long (rename o p q none n m) at = refl
-content-long (rename o p q (some d) n m) at = refl
+content-long (rename o p q None n m) at = refl
+content-long (rename o p q (Some d) n m) at = refl
 content-long (overwrite o f b) at = refl
 content-long (append o f b) at = refl
 content-long (set_length o f) at = refl
@@ -52,8 +51,8 @@ offset-kept : (o : Operation) (at : ℕ) → (range_in (map_of o) (parts o) at).
 offset-kept (create_file o p n) at = refl
 offset-kept (make_directory o p n) at = refl
 offset-kept (remove o p n) at = refl
-offset-kept (rename o p q none n m) at = refl
-offset-kept (rename o p q (some d) n m) at = refl
+offset-kept (rename o p q None n m) at = refl
+offset-kept (rename o p q (Some d) n m) at = refl
 offset-kept (overwrite o f b) at = refl
 offset-kept (append o f b) at = refl
 offset-kept (set_length o f) at = refl
@@ -63,8 +62,8 @@ list-kept : (o : Operation) → (under (map_of o) (parts o)).list ≡ (parts o).
 list-kept (create_file o p n) = refl
 list-kept (make_directory o p n) = refl
 list-kept (remove o p n) = refl
-list-kept (rename o p q none n m) = refl
-list-kept (rename o p q (some d) n m) = refl
+list-kept (rename o p q None n m) = refl
+list-kept (rename o p q (Some d) n m) = refl
 list-kept (overwrite o f b) = refl
 list-kept (append o f b) = refl
 list-kept (set_length o f) = refl
@@ -85,11 +84,11 @@ fits-there s at n b r rest h e =
     ∙ (λ i. a && (all_below n (sym l i) && leb (sym (offset-kept o q) i + sym (content-long o q) i) (1024 * b)))
 
 -- the record of a place fits exactly if what the reader answered of it does
-pub fits_read : (s : List ℕ) → Bytes s → (at n b : ℕ) (w : Whole) → record_at s at ≡ RecordIs w → fits_decoded n b (decode_at s at) ≡ fits_whole n b s w
+pub fits_read : (s : List ℕ) → Bytes s → (at n b : ℕ) (w : Whole) → record_at s at ≡ Some w → fits_decoded n b (decode_at s at) ≡ fits_whole n b s w
 unfolding fits_whole
 fits_read s byte at n b w e =
     let f = record-sound s byte at w e in
-    let d : decode_at s at ≡ some f.found = decode-encode s at f.found (drop w.next.at s) f.good f.spans.begins in
+    let d : decode_at s at ≡ Some f.found = decode-encode s at f.found (drop w.next.at s) f.good f.spans.begins in
     ap (fits_decoded n b) d
     ∙ subst
     (λ (y : Whole).

@@ -1,5 +1,6 @@
 -- What the reader accepts is the bytes of a valid record: the groups of fields, the head, and the whole record.
-use Rattle.std.specs.Prelude.{ℕ, ◌+◌, Bool, ◌&&◌, ◌||◌, eqb}
+use Rattle.buffer.specs.Code.Span.{span}
+use Rattle.std.specs.Prelude.{ℕ, ◌+◌, Bool, ◌&&◌, ◌||◌, eqb, Option, None, Some}
 use Rattle.std.proofs.Common.{arith, ◌∙◌, eqb-true}
 use Rattle.std.proofs.Math.Path.{◌≡◌, refl, sym, ap, subst}
 use Rattle.std.proofs.Math.Bool.{true, false, cond}
@@ -7,63 +8,48 @@ use mathlib.Core.List.{List, ◌++◌}
 use Rattle.std.proofs.Math.ListN.{length}
 use Rattle.record.specs.declared.kind.Kind.{Kind}
 use Rattle.record.specs.declared.kind.Kind.TheVariants.{CreateFile, MakeDirectory, Remove, Rename, Overwrite, Append, SetLength, Forder}
-use Rattle.record.specs.declared.kind.Coded.{Coded}
-use Rattle.record.specs.declared.kind.Coded.TheVariants.{Is as KindIs, Unknown}
 use Rattle.record_reader.specs.declared.Place.{Place}
-use Rattle.record_reader.specs.declared.Field.{Field}
-use Rattle.record_reader.specs.declared.Field.TheVariants.{Number, Bad as NoField}
-use Rattle.record_reader.specs.declared.Stretch.{Stretch}
-use Rattle.record_reader.specs.declared.Stretch.TheVariants.{Part, Bad as NoPart}
 use Rattle.record_reader.specs.declared.Head.{Head}
-use Rattle.record_reader.specs.declared.Headed.{Headed}
-use Rattle.record_reader.specs.declared.Headed.TheVariants.{Is as HeadIs, Bad as NoHead}
 use Rattle.record_reader.specs.declared.Objects.{Objects}
-use Rattle.record_reader.specs.declared.ObjectFields.{ObjectFields}
-use Rattle.record_reader.specs.declared.ObjectFields.TheVariants.{Are as ObjectsAre, Bad as NoObjects}
 use Rattle.buffer.specs.declared.span.Span.{Span}
 use Rattle.record_reader.specs.declared.Names.{Names}
-use Rattle.record_reader.specs.declared.NameFields.{NameFields}
-use Rattle.record_reader.specs.declared.NameFields.TheVariants.{Are as NamesAre, Bad as NoNames}
 use Rattle.record_reader.specs.declared.Range.{Range}
-use Rattle.record_reader.specs.declared.RangeFields.{RangeFields}
-use Rattle.record_reader.specs.declared.RangeFields.TheVariants.{Are as RangeIs, Bad as NoRange}
 use Rattle.record_reader.specs.declared.Whole.{Whole}
-use Rattle.record_reader.specs.declared.Reading.{Reading}
-use Rattle.record_reader.specs.declared.Reading.TheVariants.{Is as RecordIs, Bad as NoRecord}
 use Rattle.record.specs.Kind.{code_of, kind_of_code, map_of_kind, displacing_map_of, has_map}
 use Rattle.buffer.specs.Numeral.{bytes, Bytes}
 use Rattle.record.specs.Operation.{Record, kind_of, map_of}
 use Rattle.record.specs.Fields.{Parts, parted, parts, stands_in, field, text, pairs, object_fields, name_fields, range_fields, fields, head_bytes, encode, valid_objects, valid_names, valid_range, tied, differing, in_block, valid_parts, valid_head, valid, objects_of, operation_of}
-use Rattle.record_reader.specs.Code.Reader.{number_at, object_at, offset_at, name_at, block_at, list_at, on_number, on_part, head_of, head_at, objects_at, names_at, range_at, tied_at, after_head, after_objects, after_names, after_range, record_at}
+use Rattle.record_reader.specs.Code.Reader.{with_next, number_at, object_at, offset_at, name_at, block_at, list_at, on_number, on_part, head_of, head_at, objects_at, names_at, range_at, tied_at, after_head, after_objects, after_names, after_range, record_at}
 use Rattle.buffer.specs.Code.Span.{span, stretch}
 use Rattle.record.proofs.Laws.Kind.{code-inv}
 use Rattle.record.proofs.Laws.Record.{length-head}
 use Rattle.buffer.specs.Laws.Span.{Spans, spans-append}
+use Rattle.record_reader.specs.Laws.Reader.{same-next}
 use Rattle.record_reader.specs.Laws.Sound.{number-sound, object-sound, offset-sound, name-sound, block-sound, list-sound, list-pairs}
 use Rattle.record_reader.specs.Answer.{span_if, objects_in, names_in, range_in, whole_of}
 use Rattle.record_reader.specs.Code.Found.{parts_from}
 
 -- a step that did not end in a refusal had something to go on with
-pub number-went : {A : Type 0} (f : Field) (refused a : A) (g : ℕ → Place → A) → (refused ≡ a → ⊥) → on_number f refused g ≡ a
-    → (v : ℕ) × (q : Place) × (f ≡ Number v q) × (g v q ≡ a)
-number-went (Number v q) refused a g other e = (v, q, refl, e)
-number-went NoField refused a g other e = absurd (other e)
+pub number-went : {A : Type 0} (f : Option (ℕ × Place)) (refused a : A) (g : ℕ → Place → A) → (refused ≡ a → ⊥) → on_number f refused g ≡ a
+    → (v : ℕ) × (q : Place) × (f ≡ with_next v q) × (g v q ≡ a)
+number-went (Some (v, q)) refused a g other e = (v, q, refl, e)
+number-went None refused a g other e = absurd (other e)
 
-pub part-went : {A : Type 0} (f : Stretch) (refused a : A) (g : ℕ → ℕ → Place → A) → (refused ≡ a → ⊥) → on_part f refused g ≡ a
-    → (b k : ℕ) × (q : Place) × (f ≡ Part b k q) × (g b k q ≡ a)
-part-went (Part b k q) refused a g other e = (b, k, q, refl, e)
-part-went NoPart refused a g other e = absurd (other e)
+pub part-went : {A : Type 0} (f : Option (Span × Place)) (refused a : A) (g : ℕ → ℕ → Place → A) → (refused ≡ a → ⊥) → on_part f refused g ≡ a
+    → (b k : ℕ) × (q : Place) × (f ≡ with_next (span b k) q) × (g b k q ≡ a)
+part-went (Some (t, q)) refused a g other e = (t.start, t.len, q, refl, e)
+part-went None refused a g other e = absurd (other e)
 
-no-objects : (o : Objects) (p : Place) → NoObjects ≡ ObjectsAre o p → ⊥
+no-objects : (o : Objects) (p : Place) → None ≡ with_next o p → ⊥
 no-objects o p e = let z : ◌≡◌ {A = ℕ} 0 1 = cc in omega arith
 
-no_names : (n : Names) (p : Place) → NoNames ≡ NamesAre n p → ⊥
+no_names : (n : Names) (p : Place) → None ≡ with_next n p → ⊥
 no_names n p e = let z : ◌≡◌ {A = ℕ} 0 1 = cc in omega arith
 
-pub no-range : (g : Range) (p : Place) → NoRange ≡ RangeIs g p → ⊥
+pub no-range : (g : Range) (p : Place) → None ≡ with_next g p → ⊥
 no-range g p e = let z : ◌≡◌ {A = ℕ} 0 1 = cc in omega arith
 
-no-head : (h : Head) (p : Place) → NoHead ≡ HeadIs h p → ⊥
+no-head : (h : Head) (p : Place) → None ≡ with_next h p → ⊥
 no-head h p e = let z : ◌≡◌ {A = ℕ} 0 1 = cc in omega arith
 
 module _ (s : List ℕ) (byte : Bytes s) where
@@ -73,21 +59,21 @@ module _ (s : List ℕ) (byte : Bytes s) where
     pub good : (n k : List ℕ) (f : ℕ) (b l : List ℕ) → valid_objects m (parted o.object o.parent o.second o.displaced n k f b l) ≡ true
     pub answered : (n k : List ℕ) (f : ℕ) (b l : List ℕ) → objects_in m (parted o.object o.parent o.second o.displaced n k f b l) ≡ o
 
-  pub objects-sound : (m at : ℕ) (o : Objects) (p : Place) → objects_at m s at ≡ ObjectsAre o p → ObjectsRead m at o p
+  pub objects-sound : (m at : ℕ) (o : Objects) (p : Place) → objects_at m s at ≡ with_next o p → ObjectsRead m at o p
   unfolding objects_at object_fields valid_objects
   objects-sound m at o p e =
-      let i₁ = number-went (object_at (stands_in m 1) 1 s at) NoObjects (ObjectsAre o p) _ (no-objects o p) e in
-      let i₂ = number-went (object_at (stands_in m 2) 0 s i₁.1.at) NoObjects (ObjectsAre o p) _ (no-objects o p) i₁.3 in
-      let i₃ = number-went (object_at (stands_in m 4) 0 s i₂.1.at) NoObjects (ObjectsAre o p) _ (no-objects o p) i₂.3 in
-      let i₄ = number-went (object_at (stands_in m 8) 1 s i₃.1.at) NoObjects (ObjectsAre o p) _ (no-objects o p) i₃.3 in
+      let i₁ = number-went (object_at (stands_in m 1) 1 s at) None (with_next o p) _ (no-objects o p) e in
+      let i₂ = number-went (object_at (stands_in m 2) 0 s i₁.1.at) None (with_next o p) _ (no-objects o p) i₁.3 in
+      let i₃ = number-went (object_at (stands_in m 4) 0 s i₂.1.at) None (with_next o p) _ (no-objects o p) i₂.3 in
+      let i₄ = number-went (object_at (stands_in m 8) 1 s i₃.1.at) None (with_next o p) _ (no-objects o p) i₃.3 in
       let r₁ = object-sound s byte (stands_in m 1) 1 at i₁.0 i₁.1 i₁.2 in
       let r₂ = object-sound s byte (stands_in m 2) 0 i₁.1.at i₂.0 i₂.1 i₂.2 in
       let r₃ = object-sound s byte (stands_in m 4) 0 i₂.1.at i₃.0 i₃.1 i₃.2 in
       let r₄ = object-sound s byte (stands_in m 8) 1 i₃.1.at i₄.0 i₄.1 i₄.2 in
       let o₀ : Objects = record { object = i₁.0; parent = i₂.0; second = i₃.0; displaced = i₄.0 } in
-      let last : ObjectsAre o₀ i₄.1 ≡ ObjectsAre o p = i₄.3 in
-      let eo : o₀ ≡ o = cc in
-      let ep : i₄.1 ≡ p = cc in
+      let last : with_next o₀ i₄.1 ≡ with_next o p = i₄.3 in
+      let eo : o₀ ≡ o = (same-next last).0 in
+      let ep : i₄.1 ≡ p = (same-next last).1 in
       let w₁ = field (stands_in m 1) (bytes 2 i₁.0) in
       let w₂ = field (stands_in m 2) (bytes 2 i₂.0) in
       let w₃ = field (stands_in m 4) (bytes 2 i₃.0) in
@@ -110,17 +96,17 @@ module _ (s : List ℕ) (byte : Bytes s) where
     pub good : (o r q d f : ℕ) (b l : List ℕ) → valid_names m (parted o r q d (stretch s n.name) (stretch s n.second) f b l) ≡ true
     pub answered : (o r q d f : ℕ) (b l : List ℕ) → names_in m (parted o r q d (stretch s n.name) (stretch s n.second) f b l) at ≡ n
 
-  pub names-sound : (m at : ℕ) (n : Names) (p : Place) → names_at m s at ≡ NamesAre n p → NamesRead m at n p
+  pub names-sound : (m at : ℕ) (n : Names) (p : Place) → names_at m s at ≡ with_next n p → NamesRead m at n p
   unfolding names_at name_fields valid_names
   names-sound m at n p e =
-      let i₁ = part-went (name_at (stands_in m 16) s at) NoNames (NamesAre n p) _ (no_names n p) e in
-      let i₂ = part-went (name_at (stands_in m 32) s i₁.2.at) NoNames (NamesAre n p) _ (no_names n p) i₁.4 in
+      let i₁ = part-went (name_at (stands_in m 16) s at) None (with_next n p) _ (no_names n p) e in
+      let i₂ = part-went (name_at (stands_in m 32) s i₁.2.at) None (with_next n p) _ (no_names n p) i₁.4 in
       let r₁ = name-sound s byte (stands_in m 16) at i₁.0 i₁.1 i₁.2 i₁.3 in
       let r₂ = name-sound s byte (stands_in m 32) i₁.2.at i₂.0 i₂.1 i₂.2 i₂.3 in
       let n₀ : Names = record { name = span i₁.0 i₁.1; second = span i₂.0 i₂.1 } in
-      let last : NamesAre n₀ i₂.2 ≡ NamesAre n p = i₂.4 in
-      let en : n₀ ≡ n = cc in
-      let ep : i₂.2 ≡ p = cc in
+      let last : with_next n₀ i₂.2 ≡ with_next n p = i₂.4 in
+      let en : n₀ ≡ n = (same-next last).0 in
+      let ep : i₂.2 ≡ p = (same-next last).1 in
       let t₁ = stretch s (span i₁.0 i₁.1) in
       let t₂ = stretch s (span i₂.0 i₂.1) in
       let w₁ = field (stands_in m 16) (text t₁) in
@@ -146,20 +132,20 @@ module _ (s : List ℕ) (byte : Bytes s) where
   stretch-long true a start k e = ap (λ (x : Span). x.len) e
   stretch-long false a start k e = ap (λ (x : Span). x.len) e
 
-  pub range-sound : (m at : ℕ) (g : Range) (p : Place) → range_at m s at ≡ RangeIs g p → RangeRead m at g p
+  pub range-sound : (m at : ℕ) (g : Range) (p : Place) → range_at m s at ≡ with_next g p → RangeRead m at g p
   unfolding range_at range_fields valid_range
   range-sound m at g p e =
-      let i₁ = number-went (offset_at (stands_in m 64) s at) NoRange (RangeIs g p) _ (no-range g p) e in
-      let i₂ = part-went (block_at (stands_in m 128) s i₁.1.at) NoRange (RangeIs g p) _ (no-range g p) i₁.3 in
-      let i₃ = part-went (list_at (stands_in m 256) s i₂.2.at) NoRange (RangeIs g p) _ (no-range g p) i₂.4 in
+      let i₁ = number-went (offset_at (stands_in m 64) s at) None (with_next g p) _ (no-range g p) e in
+      let i₂ = part-went (block_at (stands_in m 128) s i₁.1.at) None (with_next g p) _ (no-range g p) i₁.3 in
+      let i₃ = part-went (list_at (stands_in m 256) s i₂.2.at) None (with_next g p) _ (no-range g p) i₂.4 in
       let r₁ = offset-sound s byte (stands_in m 64) at i₁.0 i₁.1 i₁.2 in
       let r₂ = block-sound s byte (stands_in m 128) i₁.1.at i₂.0 i₂.1 i₂.2 i₂.3 in
       let r₃ = list-sound s byte (stands_in m 256) i₂.2.at i₃.0 i₃.1 i₃.2 i₃.3 in
       let lp = list-pairs s byte (stands_in m 256) i₂.2.at i₃.0 i₃.1 i₃.2 i₃.3 in
       let g₀ : Range = record { offset = i₁.0; content = span i₂.0 i₂.1; list = span i₃.0 i₃.1 } in
-      let last : RangeIs g₀ i₃.2 ≡ RangeIs g p = i₃.4 in
-      let eg : g₀ ≡ g = cc in
-      let ep : i₃.2 ≡ p = cc in
+      let last : with_next g₀ i₃.2 ≡ with_next g p = i₃.4 in
+      let eg : g₀ ≡ g = (same-next last).0 in
+      let ep : i₃.2 ≡ p = (same-next last).1 in
       let t₂ = stretch s (span i₂.0 i₂.1) in
       let t₃ = stretch s (span i₃.0 i₃.1) in
       let w₁ = field (stands_in m 64) (bytes 4 i₁.0) in
@@ -188,13 +174,13 @@ module _ (s : List ℕ) (byte : Bytes s) where
     pub good : valid_head h.sequence h.program ≡ true
     pub of_kind : has_map h.kind h.map ≡ true
 
-  pub head-sound : (at : ℕ) (h : Head) (p : Place) → head_at s at ≡ HeadIs h p → HeadRead at h p
+  pub head-sound : (at : ℕ) (h : Head) (p : Place) → head_at s at ≡ with_next h p → HeadRead at h p
   unfolding head_at head_of head_bytes
   head-sound at h p e =
-      let i₁ = number-went (number_at 2 s at) NoHead (HeadIs h p) _ (no-head h p) e in
-      let i₂ = number-went (number_at 4 s i₁.1.at) NoHead (HeadIs h p) _ (no-head h p) i₁.3 in
-      let i₃ = number-went (number_at 1 s i₂.1.at) NoHead (HeadIs h p) _ (no-head h p) i₂.3 in
-      let i₄ = number-went (number_at 1 s i₃.1.at) NoHead (HeadIs h p) _ (no-head h p) i₃.3 in
+      let i₁ = number-went (number_at 2 s at) None (with_next h p) _ (no-head h p) e in
+      let i₂ = number-went (number_at 4 s i₁.1.at) None (with_next h p) _ (no-head h p) i₁.3 in
+      let i₃ = number-went (number_at 1 s i₂.1.at) None (with_next h p) _ (no-head h p) i₂.3 in
+      let i₄ = number-went (number_at 1 s i₃.1.at) None (with_next h p) _ (no-head h p) i₃.3 in
       kinds i₁.0 i₂.0 i₃.0 i₄.0 i₄.1
       (spans-append s at i₁.1.at i₄.1.at (bytes 2 i₁.0) (bytes 4 i₂.0 ++ (bytes 1 i₃.0 ++ bytes 1 i₄.0)) (number-sound s byte 2 at i₁.0 i₁.1 i₁.2)
       (spans-append s i₁.1.at i₂.1.at i₄.1.at (bytes 4 i₂.0) (bytes 1 i₃.0 ++ bytes 1 i₄.0) (number-sound s byte 4 i₁.1.at i₂.0 i₂.1 i₂.2)
@@ -204,10 +190,10 @@ module _ (s : List ℕ) (byte : Bytes s) where
     where
       tested : (map sequence program code : ℕ) (q : Place) → Spans s at (bytes 2 map ++ (bytes 4 sequence ++ (bytes 1 program ++ bytes 1 code))) q.at
           → (k : Kind) → code_of k ≡ code → (a b : Bool) → valid_head sequence program ≡ a → has_map k map ≡ b
-          → cond (a && b) (HeadIs (record { map = map; sequence = sequence; program = program; kind = k }) q) NoHead ≡ HeadIs h p → HeadRead at h p
+          → cond (a && b) (with_next (record { map = map; sequence = sequence; program = program; kind = k }) q) None ≡ with_next h p → HeadRead at h p
       tested map sequence program code q sp k ck true true va hm l =
-          let eh : record { map = map; sequence = sequence; program = program; kind = k } ≡ h = cc in
-          let ep : q ≡ p = cc in
+          let eh : record { map = map; sequence = sequence; program = program; kind = k } ≡ h = (same-next l).0 in
+          let ep : q ≡ p = (same-next l).1 in
           let read : HeadRead at (record { map = map; sequence = sequence; program = program; kind = k }) q =
           record { spans = rw ck sp; good = va; of_kind = hm } in
           subst (λ (y : Place). HeadRead at h y) ep (subst (λ (y : Head). HeadRead at y q) eh read)
@@ -215,9 +201,9 @@ module _ (s : List ℕ) (byte : Bytes s) where
       tested map sequence program code q sp k ck false b va hm l = let z : ◌≡◌ {A = ℕ} 0 1 = cc in absurd (omega arith)
 
       kinds : (map sequence program code : ℕ) (q : Place) → Spans s at (bytes 2 map ++ (bytes 4 sequence ++ (bytes 1 program ++ bytes 1 code))) q.at
-          → (k : Coded) → kind_of_code code ≡ k → head_of map sequence program k q ≡ HeadIs h p → HeadRead at h p
-      kinds map sequence program code q sp (KindIs k) ek l = tested map sequence program code q sp k (code-inv code k ek) (valid_head sequence program) (has_map k map) refl refl l
-      kinds map sequence program code q sp Unknown ek l = let z : ◌≡◌ {A = ℕ} 0 1 = cc in absurd (omega arith)
+          → (k : Option Kind) → kind_of_code code ≡ k → head_of map sequence program k q ≡ with_next h p → HeadRead at h p
+      kinds map sequence program code q sp (Some k) ek l = tested map sequence program code q sp k (code-inv code k ek) (valid_head sequence program) (has_map k map) refl refl l
+      kinds map sequence program code q sp None ek l = let z : ◌≡◌ {A = ℕ} 0 1 = cc in absurd (omega arith)
 
 -- an operation whose fields are taken from the nine has the bytes, the limits and the answer of the nine under its map
 record Agrees (k : Kind) (m : ℕ) (x : Parts) : Type 0 where
@@ -269,21 +255,21 @@ pub record Sound (s : List ℕ) (at : ℕ) (w : Whole) : Type 0 where
   pub spans : Spans s at (encode found) w.next.at
   pub answered : whole_of found at ≡ w
 
-after-head-inv : (f : Headed) (g : Head → Place → Reading) (w : Whole) → after_head f g ≡ RecordIs w → (h : Head) × (p : Place) × (f ≡ HeadIs h p) × (g h p ≡ RecordIs w)
-after-head-inv (HeadIs h p) g w e = (h, p, refl, e)
-after-head-inv NoHead g w e = let z : ◌≡◌ {A = ℕ} 0 1 = cc in absurd (omega arith)
+after-head-inv : (f : Option (Head × Place)) (g : Head → Place → Option Whole) (w : Whole) → after_head f g ≡ Some w → (h : Head) × (p : Place) × (f ≡ with_next h p) × (g h p ≡ Some w)
+after-head-inv (Some (h, p)) g w e = (h, p, refl, e)
+after-head-inv None g w e = let z : ◌≡◌ {A = ℕ} 0 1 = cc in absurd (omega arith)
 
-after-objects-inv : (f : ObjectFields) (g : Objects → Place → Reading) (w : Whole) → after_objects f g ≡ RecordIs w → (o : Objects) × (p : Place) × (f ≡ ObjectsAre o p) × (g o p ≡ RecordIs w)
-after-objects-inv (ObjectsAre o p) g w e = (o, p, refl, e)
-after-objects-inv NoObjects g w e = let z : ◌≡◌ {A = ℕ} 0 1 = cc in absurd (omega arith)
+after-objects-inv : (f : Option (Objects × Place)) (g : Objects → Place → Option Whole) (w : Whole) → after_objects f g ≡ Some w → (o : Objects) × (p : Place) × (f ≡ with_next o p) × (g o p ≡ Some w)
+after-objects-inv (Some (o, p)) g w e = (o, p, refl, e)
+after-objects-inv None g w e = let z : ◌≡◌ {A = ℕ} 0 1 = cc in absurd (omega arith)
 
-after-names-inv : (f : NameFields) (g : Names → Place → Reading) (w : Whole) → after_names f g ≡ RecordIs w → (n : Names) × (p : Place) × (f ≡ NamesAre n p) × (g n p ≡ RecordIs w)
-after-names-inv (NamesAre n p) g w e = (n, p, refl, e)
-after-names-inv NoNames g w e = let z : ◌≡◌ {A = ℕ} 0 1 = cc in absurd (omega arith)
+after-names-inv : (f : Option (Names × Place)) (g : Names → Place → Option Whole) (w : Whole) → after_names f g ≡ Some w → (n : Names) × (p : Place) × (f ≡ with_next n p) × (g n p ≡ Some w)
+after-names-inv (Some (n, p)) g w e = (n, p, refl, e)
+after-names-inv None g w e = let z : ◌≡◌ {A = ℕ} 0 1 = cc in absurd (omega arith)
 
-after-range-inv : (f : RangeFields) (g : Range → Place → Reading) (w : Whole) → after_range f g ≡ RecordIs w → (r : Range) × (p : Place) × (f ≡ RangeIs r p) × (g r p ≡ RecordIs w)
-after-range-inv (RangeIs r p) g w e = (r, p, refl, e)
-after-range-inv NoRange g w e = let z : ◌≡◌ {A = ℕ} 0 1 = cc in absurd (omega arith)
+after-range-inv : (f : Option (Range × Place)) (g : Range → Place → Option Whole) (w : Whole) → after_range f g ≡ Some w → (r : Range) × (p : Place) × (f ≡ with_next r p) × (g r p ≡ Some w)
+after-range-inv (Some (r, p)) g w e = (r, p, refl, e)
+after-range-inv None g w e = let z : ◌≡◌ {A = ℕ} 0 1 = cc in absurd (omega arith)
 
 module _ (s : List ℕ) (byte : Bytes s) (at : ℕ) where
   -- a head and three groups of fields that were read one after the other, and are tied as they must be
@@ -344,7 +330,7 @@ module _ (s : List ℕ) (byte : Bytes s) (at : ℕ) where
             };
       }
 
-  pub record-sound : (w : Whole) → record_at s at ≡ RecordIs w → Sound s at w
+  pub record-sound : (w : Whole) → record_at s at ≡ Some w → Sound s at w
   unfolding record_at
   record-sound w e =
       let i₁ = after-head-inv (head_at s at) _ w e in
@@ -358,7 +344,7 @@ module _ (s : List ℕ) (byte : Bytes s) (at : ℕ) where
     where
       last : (h : Head) (p : Place) (o : Objects) (q : Place) (n : Names) (r : Place) (g : Range) (t : Place)
           → HeadRead s byte at h p → ObjectsRead s byte h.map p.at o q → NamesRead s byte h.map q.at n r → RangeRead s byte h.map r.at g t
-          → (b : Bool) → tied_at h.map o g ≡ b → cond b (RecordIs (record { head = h; objects = o; names = n; range = g; next = t })) NoRecord ≡ RecordIs w → Sound s at w
+          → (b : Bool) → tied_at h.map o g ≡ b → cond b (Some (record { head = h; objects = o; names = n; range = g; next = t })) None ≡ Some w → Sound s at w
       last h p o q n r g t hr or nr gr true ti l =
           let ew : record { head = h; objects = o; names = n; range = g; next = t } ≡ w = cc in
           subst (λ (y : Whole). Sound s at y) ew (joined-sound h p o q n r g t hr or nr gr ti)

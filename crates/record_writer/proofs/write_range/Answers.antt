@@ -1,42 +1,13 @@
 -- `record_writer::write_range` meets its contract: the head and the fields of the map are put one after another.
 -- Assumes nothing.
-use native.Mathlib.Omega.{arith}
-use Rattle.buffer.specs.Laws.Numeral.{length-bytes}
-use Rattle.buffer.specs.Laws.Patch.{put_then, put-end}
-use Rattle.record.proofs.Laws.Record.{length-head}
-use Rattle.record_writer.specs.Laws.Writer.{put_written, range-bytes, range_size}
+use Rattle.buffer.specs.Laws.Patch.{put_then}
+use Rattle.record_writer.specs.Laws.Writer.{put_written, range-bytes}
 use Rattle.record_writer.proofs.write_range.Goals as goal
-
--- the room is that of the whole record, and the place after each field is the sum of the lengths before it
-pub put_head-a-requires : goal.put_head-a-requires
-put_head-a-requires c =
-    let a = c.args in
-    omega (arith, range_size a.kind a.sequence a.program a.object a.offset a.content.now c.requires.kind_value, c.requires.writable.room)
-
-pub put_two-b-requires : goal.put_two-b-requires
-put_two-b-requires c =
-    let a = c.args in
-    omega (arith, range_size a.kind a.sequence a.program a.object a.offset a.content.now c.requires.kind_value, c.requires.writable.room, put-end 8 c.put_head-a.ensures (length-head _ _ _ _))
-
-pub put_four-c-requires : goal.put_four-c-requires
-put_four-c-requires c =
-    let a = c.args in
-    omega (arith, range_size a.kind a.sequence a.program a.object a.offset a.content.now c.requires.kind_value, c.requires.writable.room, put-end 8 c.put_head-a.ensures (length-head _ _ _ _), put-end 2 c.put_two-b.ensures (length-bytes 2 _))
-
-pub put_two-d-requires : goal.put_two-d-requires
-put_two-d-requires c =
-    let a = c.args in
-    omega (arith, range_size a.kind a.sequence a.program a.object a.offset a.content.now c.requires.kind_value, c.requires.writable.room, put-end 8 c.put_head-a.ensures (length-head _ _ _ _), put-end 2 c.put_two-b.ensures (length-bytes 2 _), put-end 4 c.put_four-c.ensures (length-bytes 4 _))
-
-pub put_bytes-requires : goal.put_bytes-requires
-put_bytes-requires c =
-    let a = c.args in
-    omega (arith, range_size a.kind a.sequence a.program a.object a.offset a.content.now c.requires.kind_value, c.requires.writable.room, put-end 8 c.put_head-a.ensures (length-head _ _ _ _), put-end 2 c.put_two-b.ensures (length-bytes 2 _), put-end 4 c.put_four-c.ensures (length-bytes 4 _), put-end 2 c.put_two-d.ensures (length-bytes 2 _))
 
 pub returns : goal.returns
 returns c =
     let a = c.args in
-    let h = rw (c.map.ensures, c.code.ensures) at c.put_head-a.ensures in
+    let h = rw c.map.ensures at c.put_head-object_at.ensures in
     put_written _
-    (put_then h (put_then c.put_two-b.ensures (put_then c.put_four-c.ensures (put_then c.put_two-d.ensures c.put_bytes.ensures))))
+    (put_then h (put_then c.put_two-offset_at.ensures (put_then c.put_four-length_at.ensures (put_then c.put_two-content_at.ensures c.put_bytes.ensures))))
     (range-bytes a.kind a.sequence a.program a.object a.offset a.content.now c.requires.kind_value)

@@ -1,10 +1,10 @@
 -- Document 01, "Loss record", for the writer: the record that each writer is given the fields of, and what a writer leaves.
-use Rattle.std.specs.Prelude.{ℕ, ◌≤◌, ◌≡◌, List, [], ◌++◌, true, length, drop, ltb}
-use Rattle.std.proofs.Math.Option.{Option}
+use Rattle.std.specs.Prelude.{ℕ, ◌≤◌, ◌≡◌, List, [], ◌++◌, true, length, drop, Option, None, Some}
 use Rattle.record.specs.declared.kind.Kind.{Kind}
 use Rattle.record.specs.Kind.{map_of_kind}
 use Rattle.record.specs.Operation.{rename, set_length, forder, Record, record_of}
-use Rattle.record.specs.Fields.{parted, encode, valid, objects_of, displaced_if, operation_of}
+use Rattle.buffer.specs.Numeral.{bytes}
+use Rattle.record.specs.Fields.{parted, encode, valid, objects_of, operation_of}
 
 -- "A record could be written exactly if it is valid"; and it must fit the buffer
 pub record Writable (r : Record) (before : List ℕ) : Type 0 where
@@ -21,13 +21,14 @@ unfoldable pub entry_record : Kind → ℕ → ℕ → ℕ → ℕ → List ℕ 
 entry_record k sequence program object parent name =
     record_of sequence program (operation_of k (map_of_kind k) (parted object parent 0 0 name [] 0 [] []))
 
--- a displaced object by its number, 0 where there is none: "object and displaced 1..255"
-abbrev pub displaced_by : ℕ → Option ℕ
-displaced_by d = displaced_if (ltb 0 d) d
+-- the bytes of a displaced object, if there is one: "3 displaced object (2)"
+abbrev pub displaced_bytes : Option ℕ → List ℕ
+displaced_bytes None = []
+displaced_bytes (Some d) = bytes 2 d
 
-unfoldable pub rename_record : ℕ → ℕ → ℕ → ℕ → ℕ → ℕ → List ℕ → List ℕ → Record
+unfoldable pub rename_record : ℕ → ℕ → ℕ → ℕ → ℕ → Option ℕ → List ℕ → List ℕ → Record
 rename_record sequence program object parent second displaced name second_name =
-    record_of sequence program (rename object parent second (displaced_by displaced) name second_name)
+    record_of sequence program (rename object parent second displaced name second_name)
 
 -- a record of overwrite or append
 unfoldable pub range_record : Kind → ℕ → ℕ → ℕ → ℕ → List ℕ → Record

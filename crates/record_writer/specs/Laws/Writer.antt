@@ -1,17 +1,17 @@
 -- The bytes of each shape of record, so that a chain of puts writes a record.
-use Rattle.std.specs.Prelude.{ℕ, ◌+◌, ◌/◌, ◌%◌, ◌≡◌, refl, Bool, true, false, List, ◌++◌, length, ltb}
+use Rattle.std.specs.Prelude.{ℕ, ◌+◌, ◌/◌, ◌%◌, ◌≡◌, refl, List, ◌++◌, length, Option, None, Some}
 use Rattle.std.proofs.Common.{zero-add, arith, ◌∙◌, append_assoc, append-nil, length-append}
 use Rattle.record.specs.declared.kind.Kind.{Kind}
 use Rattle.record.specs.declared.kind.Kind.TheVariants.{CreateFile, MakeDirectory, Remove, Rename, Overwrite, Append, SetLength, Forder}
 use Rattle.record.specs.Kind.{code_of, map_of_kind}
 use Rattle.buffer.specs.Numeral.{bytes, Bytes}
 use Rattle.buffer.specs.Laws.Numeral.{length-bytes}
-use Rattle.record.specs.Operation.{Record, rename, map_with, record_of}
-use Rattle.record.specs.Fields.{field, text, object_fields, name_fields, range_fields, fields, head_bytes, encode, displaced_if}
+use Rattle.record.specs.Operation.{Record, map_with}
+use Rattle.record.specs.Fields.{text, object_fields, name_fields, range_fields, fields, head_bytes, encode}
 use Rattle.record.proofs.Laws.List.{count-objects, pairs-objects}
 use Rattle.record.proofs.Laws.Record.{length-head}
 use Rattle.buffer.specs.Patch.{patch, Put}
-use Rattle.record_writer.specs.Code.Writer.{Written, displaced_by, entry_record, rename_record, range_record, length_record, forder_record}
+use Rattle.record_writer.specs.Code.Writer.{Written, displaced_bytes, entry_record, rename_record, range_record, length_record, forder_record}
 
 -- what is put at the start, if it is a record's bytes, is the record written
 pub put_written : (r : Record) {v a b : List ℕ} {n : ℕ} → Put v 0 a b n → encode r ≡ v → Written r a b n
@@ -35,20 +35,13 @@ entry-bytes Append s p o q n e = absurd (omega arith)
 entry-bytes SetLength s p o q n e = absurd (omega arith)
 entry-bytes Forder s p o q n e = absurd (omega arith)
 
-rename-bytes-by : (b : Bool) (s p o q u d : ℕ) (n m : List ℕ)
-    → encode (record_of s p (rename o q u (displaced_if b d) n m))
-    ≡ head_bytes (map_with Rename (displaced_if b d)) s p (code_of Rename)
-    ++ (bytes 2 o ++ (bytes 2 q ++ (bytes 2 u ++ (field b (bytes 2 d) ++ (text n ++ text m)))))
-unfolding encode fields object_fields name_fields range_fields
-rename-bytes-by true s p o q u d n m = simp (append-nil, append_assoc)
-rename-bytes-by false s p o q u d n m = simp (append-nil, append_assoc)
-
-pub rename-bytes : (s p o q u d : ℕ) (n m : List ℕ)
+pub rename-bytes : (s p o q u : ℕ) (d : Option ℕ) (n m : List ℕ)
     → encode (rename_record s p o q u d n m)
-    ≡ head_bytes (map_with Rename (displaced_by d)) s p (code_of Rename)
-    ++ (bytes 2 o ++ (bytes 2 q ++ (bytes 2 u ++ (field (ltb 0 d) (bytes 2 d) ++ (text n ++ text m)))))
-unfolding rename_record
-rename-bytes s p o q u d n m = rename-bytes-by (ltb 0 d) s p o q u d n m
+    ≡ head_bytes (map_with Rename d) s p (code_of Rename)
+    ++ (bytes 2 o ++ (bytes 2 q ++ (bytes 2 u ++ (displaced_bytes d ++ (text n ++ text m)))))
+unfolding rename_record encode fields object_fields name_fields range_fields
+rename-bytes s p o q u (Some d) n m = simp (append-nil, append_assoc)
+rename-bytes s p o q u None n m = simp (append-nil, append_assoc)
 
 pub range-bytes : (k : Kind) (s p o f : ℕ) (c : List ℕ) → map_of_kind k ≡ map_of_kind Overwrite
     → encode (range_record k s p o f c) ≡ head_bytes (map_of_kind k) s p (code_of k) ++ (bytes 2 o ++ (bytes 4 f ++ (bytes 2 (length c) ++ c)))
@@ -75,8 +68,8 @@ forder-bytes s p l h e = rw (count-objects l, pairs-objects l (length l / 2) h (
 pub entry-size : (k : Kind) (s p o q : ℕ) (n : List ℕ) → map_of_kind k ≡ map_of_kind CreateFile → length (encode (entry_record k s p o q n)) ≡ 13 + length n
 entry-size k s p o q n e = rw (entry-bytes k s p o q n e) (simp (length-append, length-head, length-bytes) (omega arith))
 
-pub rename-size : (s p o q u d : ℕ) (n m : List ℕ)
-    → length (encode (rename_record s p o q u d n m)) ≡ 16 + length (field (ltb 0 d) (bytes 2 d)) + length n + length m
+pub rename-size : (s p o q u : ℕ) (d : Option ℕ) (n m : List ℕ)
+    → length (encode (rename_record s p o q u d n m)) ≡ 16 + length (displaced_bytes d) + length n + length m
 rename-size s p o q u d n m = rw (rename-bytes s p o q u d n m) (simp (length-append, length-head, length-bytes) (omega arith))
 
 pub range_size : (k : Kind) (s p o f : ℕ) (c : List ℕ) → map_of_kind k ≡ map_of_kind Overwrite → length (encode (range_record k s p o f c)) ≡ 16 + length c
@@ -87,3 +80,6 @@ newlength-size s p o f = rw (newlength-bytes s p o f) (simp (length-append, leng
 
 pub forder-size : (s p : ℕ) (l : List ℕ) → Bytes l → length l % 2 ≡ 0 → length (encode (forder_record s p l)) ≡ 9 + length l
 forder-size s p l h e = rw (forder-bytes s p l h e) (simp (length-append, length-head, length-bytes) (omega arith))
+
+-- the lengths, for what must fit the buffer
+pub ruleset sizes = (entry-size, rename-size, range_size, newlength-size, forder-size)

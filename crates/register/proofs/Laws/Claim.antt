@@ -6,7 +6,7 @@ use Rattle.std.proofs.Math.Path.{refl, sym, ap, subst}
 use Rattle.std.proofs.Common.{◌∙◌, ⊎_elim, eq-eqb}
 use mathlib.Core.List.{List, [], ◌∷◌, ◌++◌, map, Memᴰ, append-nil, map-append}
 use Rattle.std.proofs.Math.Bool.{false, cond}
-use Rattle.std.proofs.Math.Option.{some}
+use Rattle.std.specs.Prelude.{Some}
 use Rattle.std.proofs.Math.ListN.{length}
 use Rattle.std.proofs.Math.ListN
 use Rattle.returned.specs.Returned
@@ -175,7 +175,7 @@ module _ (g : Geometry) (v : Volume) where
       let at = waiting-at g.objects g.blocks g.capacity x.log l.good.kept.sound.log there in (
         (λ e.
             let f = push-accepted q x (ap (λ (b : Answer). b.returned) (sym is) ∙ e) in
-            let z : some f.0 ≡ some a.recorded = sym f.1.found ∙ at in
+            let z : Some f.0 ≡ Some a.recorded = sym f.1.found ∙ at in
             let own : f.0 ≡ a.recorded = cc in
             u.0 (ap (λ (k : List Record). preceded k a.recorded) same ∙ direct-decides w a.recorded ∙ ap (λ (y : Record). any (λ b. before b y) w) (sym own) ∙ f.1.free)),
         λ h.
@@ -255,7 +255,7 @@ demand g s v m cs =
     met : (n : Moment) → Memᴰ n (play g s v cs).moments → Met g v n (play g s v cs)
     met n h = run-met g v cs begin (mounted_model v) (mounted-led g s v m) n h
 
-    same : (y : Model) → decode_model g (play g s v cs).last.buffers ≡ some y → x ≡ y
+    same : (y : Model) → decode_model g (play g s v cs).last.buffers ≡ Some y → x ≡ y
     same y e = read-once g (play g s v cs).last.buffers x y l.holds e
 
     took : Took g v cs begin (mounted_model v) (λ p. [])

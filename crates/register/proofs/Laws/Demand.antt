@@ -3,7 +3,7 @@ use Rattle.std.specs.Prelude.{ℕ, zero, suc, ◌<◌, ◌≤◌, ◌≡◌, ref
 use Rattle.std.proofs.Common.{arith, sym, ap, ◌∙◌, subst, take-append-drop, ne_eqb}
 use mathlib.Core.List.{List, [], ◌∷◌, ◌++◌, map, Memᴰ, append_assoc}
 use Rattle.std.proofs.lemmas.Bool.{false≢true}
-use Rattle.std.proofs.Math.Option.{Option, none, some}
+use Rattle.std.specs.Prelude.{Option, None, Some}
 use Rattle.std.proofs.lemmas.List.{take-append-le}
 use Rattle.std.proofs.Math.Seq.{take-length}
 use Rattle.session.specs.Told.{Told}
@@ -115,7 +115,7 @@ module _ (g : Geometry) (s : Buffers) (v : Volume) (m : Mounted g s v) (cs : Lis
 -- "Same mounted volume: equal bytes, n and b"
 same-mounted : (g h : Geometry) (s t : Buffers) (v w : Volume) → Mounted g s v → Mounted h t w → g.objects ≡ h.objects → g.blocks ≡ h.blocks
     → (mount g s).leaves.server ≡ (mount h t).leaves.server → v ≡ w
-same-mounted g h s t v w m k n b bytes = let both : some v ≡ some w = sym m.server ∙ (λ i. decode_volume (n i) (b i) (bytes i)) ∙ k.server in cc
+same-mounted g h s t v w m k n b bytes = let both : Some v ≡ Some w = sym m.server ∙ (λ i. decode_volume (n i) (b i) (bytes i)) ∙ k.server in cc
 
 pub determined : (g h : Geometry) (s t : Buffers) (v w : Volume) → Mounted g s v → Mounted h t w
     → g.objects ≡ h.objects → g.blocks ≡ h.blocks → (mount g s).leaves.server ≡ (mount h t).leaves.server
@@ -150,7 +150,7 @@ push-any g s x st q m fit =
     let at = waiting-at g.objects g.blocks g.capacity x.log h.sound.log m in (
       (λ e a ma pr.
           let f = push-accepted q.sequence x (ap (λ (b : Answer). b.returned) (sym is) ∙ e) in
-          let z : some f.0 ≡ some q = sym f.1.found ∙ at in
+          let z : Some f.0 ≡ Some q = sym f.1.found ∙ at in
           let own : f.0 ≡ q = cc in
           false≢true (sym (direct-decides w q ∙ ap (λ (y : Record). any (λ b. before b y) w) (sym own) ∙ f.1.free) ∙ (preceded-exact w q).1 (a, ma, pr))),
       λ clear. ap (λ (b : Answer). b.returned) (is ∙ push-passes q.sequence x q at (sym (direct-decides w q) ∙ first (preceded w q) refl clear) fit),
@@ -194,8 +194,8 @@ refused-unchanged g c s n l d = go (in_range g) (lengths_fit g s) (decode_model 
         → Unchanged c s (cond (r && f) (on_model g c s e) (turned_down Returned.wrong_buffer c s))
     go false f e hr hf he n l d = plain Returned.wrong_buffer
     go true false e hr hf he n l d = plain Returned.wrong_buffer
-    go true true none hr hf he n l d = plain Returned.damaged
-    go true true (some x) hr hf he n l d =
+    go true true None hr hf he n l d = plain Returned.damaged
+    go true true (Some x) hr hf he n l d =
         let st : Stores g s x = record { range = hr; lengths = hf; read = he } in
         let h = model-read g s x st in
         let second : (answer_of g c x).returned ≡ Returned.damaged → (p o k : ℕ) → c ≡ fsync p o k → ⊥ = λ e. d e x st in

@@ -5,7 +5,7 @@ use Rattle.std.proofs.Math.Path.{refl, sym, ap, subst}
 use Rattle.std.proofs.Math.Logic.{inl, ⊎_elim}
 use mathlib.Core.List.{List, [], ◌∷◌, ◌++◌, map, Memᴰ}
 use Rattle.std.proofs.Math.Bool.{and-eq-true_iff}
-use Rattle.std.proofs.Math.Option.{some}
+use Rattle.std.specs.Prelude.{Some}
 use Rattle.std.proofs.lemmas.Bool.{eqb-false}
 use Rattle.buffer.specs.Laws.Test.{or_cases, or_left, or_right}
 use Rattle.record.specs.Operation.{Operation, Record}
@@ -209,7 +209,7 @@ module _ (r : Register) (timed : Timed r.operations r.happened) (known : Recalle
               )
 
       -- a waiting operation is sent: nothing that the history tells depends on it
-      pub send-depended : (q : ℕ) (z : Record) → waiting_at q l ≡ some z → Depended (happen (send q) r) (Change.sent z.sequence l)
+      pub send-depended : (q : ℕ) (z : Record) → waiting_at q l ≡ Some z → Depended (happen (send q) r) (Change.sent z.sequence l)
       unfolding happen
       send-depended q z found =
           record {

@@ -1,22 +1,22 @@
 -- What the register is fed, by its own sentences, is what a call's effects on the model leave of it.
-use Rattle.std.specs.Prelude.{ℕ, ◌+◌, ◌-◌, ◌≤◌, ◌≡◌, Bool, ◌&&◌, length, get_or, take, drop, leb}
+use Rattle.volume_lookup.specs.declared.lookup.LookupError.TheVariants.{BadName, LongName, NoObject, WrongKind}
+use Rattle.volume_lookup.specs.declared.lookup.LookupError.{LookupError}
+use Rattle.std.specs.Prelude.{ℕ, ◌+◌, ◌-◌, ◌≤◌, ◌≡◌, Bool, ◌&&◌, length, get_or, take, drop, leb, Result, Ok, Err}
 use Rattle.std.proofs.Common.{arith, sym, ◌∙◌, leb-true, leb-false, eqb-true}
 use Rattle.std.proofs.Math.Path.{refl, ap}
 use mathlib.Core.List.{List, [], ◌∷◌, ◌++◌}
 use Rattle.std.proofs.Math.Bool.{true, false, cond}
-use Rattle.std.proofs.Math.Option.{Option, none, some}
+use Rattle.std.specs.Prelude.{Option, None, Some}
 use Rattle.std.proofs.Math.Dec.{eqb}
 use Rattle.returned.specs.Returned
-use Rattle.names.specs.declared.NameText.{NameText}
-use Rattle.names.specs.declared.NameText.TheVariants.{Fine, Bad, Long}
+use Rattle.names.specs.declared.NameError.{NameError}
+use Rattle.names.specs.declared.NameError.TheVariants.{Bad, Long}
 use Rattle.names.specs.Name.{name_text_of}
-use Rattle.paths.specs.declared.PathText.TheVariants.{Bad as BadPath, Root, Components}
+use Rattle.paths.specs.declared.PathText.TheVariants.{Root, Components}
 use Rattle.paths.specs.Path.{path_text_of, components}
 use Rattle.record.specs.Operation.{Operation, Record, operands}
 use Rattle.volume_entry.specs.Entry.{is_directory, contents_of}
 use Rattle.volume_tree.specs.Volume.{Volume, entry_at, search}
-use Rattle.volume_lookup.specs.declared.lookup.Reached.{Reached}
-use Rattle.volume_lookup.specs.declared.lookup.Reached.TheVariants.{WrongKind}
 use Rattle.volume_lookup.specs.Lookup.{sought_answer, checked_answer, component_answer, next_answer, components_answer, path_answer, lookup_answer, next_objects, components_objects, path_objects, lookup_operands, reached_number}
 use Rattle.log_rules.specs.Order.{needed}
 use Rattle.log_rules.specs.Change.{waiting_of}
@@ -58,17 +58,17 @@ sent-cut (q ∷ l) r = sent-cut l (send_one q.sequence r)
 
 -- what names lead to, and what a rename displaces
 found-same : (s : Option ℕ) (f : ℕ → Operation) → on_found s f ≡ Issue.on_found s f
-found-same none f = refl
-found-same (some o) f = refl
+found-same None f = refl
+found-same (Some o) f = refl
 
 displacing-same : (o : ℕ) (s : Option ℕ) → displacing o s ≡ Issue.displaced o s
-displacing-same o none = refl
-displacing-same o (some i) = refl
+displacing-same o None = refl
+displacing-same o (Some i) = refl
 
 renamed-same : (v : Volume) (d e : ℕ) (n k : List ℕ) (s : Option ℕ)
     → on_found s (λ o. Operation.rename o d e (displacing o (search v e k)) n k) ≡ Issue.on_found s (λ o. Operation.rename o d e (Issue.displaced o (search v e k)) n k)
-renamed-same v d e n k none = refl
-renamed-same v d e n k (some o) = ap (λ (z : Option ℕ). Operation.rename o d e z n k ∷ []) (displacing-same o (search v e k))
+renamed-same v d e n k None = refl
+renamed-same v d e n k (Some o) = ap (λ (z : Option ℕ). Operation.rename o d e z n k ∷ []) (displacing-same o (search v e k))
 
 -- some bytes that begin at the length at most
 writing-same : (len o f : ℕ) (s : List ℕ) → 1 ≤ length s → f ≤ len → writing len o f s ≡ writes_at len o f s
@@ -90,24 +90,24 @@ unfolding components_answer component_answer components_objects passed
 found_passed v [] d e = refl
 found_passed v (c ∷ cs) d e = ap (λ (l : List ℕ). d ∷ l) (go (name_text_of c) (is_directory (entry_at v d)) (search v d c) e (found_passed v cs))
   where
-    step : NameText → Bool → Option ℕ → Reached
-    step t b s = checked_answer t (cond b (sought_answer s) WrongKind)
+    step : Result (Unit {0}) NameError → Bool → Option ℕ → Result ℕ LookupError
+    step t b s = checked_answer t (cond b (sought_answer s) (Err WrongKind))
 
-    go : (t : NameText) (b : Bool) (s : Option ℕ) → reached_number (next_answer (step t b s) (λ i. components_answer v i cs)) ≡ 0
+    go : (t : Result (Unit {0}) NameError) (b : Bool) (s : Option ℕ) → reached_number (next_answer (step t b s) (λ i. components_answer v i cs)) ≡ 0
         → ((i : ℕ) → reached_number (components_answer v i cs) ≡ 0 → passed v i cs ≡ i ∷ components_objects v i cs)
         → onward s (λ i. passed v i cs) ≡ next_objects (step t b s) (λ i. components_objects v i cs)
-    go Fine true none h rest = absurd (omega arith)
-    go Fine true (some i) h rest = rest i h
-    go Fine false s h rest = absurd (omega arith)
-    go Bad b s h rest = absurd (omega arith)
-    go Long b s h rest = absurd (omega arith)
+    go (Ok x) true None h rest = absurd (omega arith)
+    go (Ok x) true (Some i) h rest = rest i h
+    go (Ok x) false s h rest = absurd (omega arith)
+    go (Err Bad) b s h rest = absurd (omega arith)
+    go (Err Long) b s h rest = absurd (omega arith)
 
 path-passed : (v : Volume) (s : List ℕ) → reached_number (lookup_answer v s) ≡ 0 → passed v 0 (names_in s) ≡ lookup_operands v s
 unfolding lookup_answer lookup_operands path_text_of passed
 path-passed v s e = go (leb 1 (length s) && (leb (length s) 1023 && eqb (get_or s 0 0) 47)) (eqb (length s) 1) e
   where
-    go : (t u : Bool) → reached_number (path_answer (cond t (cond u Root Components) BadPath) (components_answer v 0 (components s))) ≡ 0
-        → passed v 0 (cond u [] (components s)) ≡ path_objects (cond t (cond u Root Components) BadPath) (components_objects v 0 (components s))
+    go : (t u : Bool) → reached_number (path_answer (cond t (cond u (Some Root) (Some Components)) None) (components_answer v 0 (components s))) ≡ 0
+        → passed v 0 (cond u [] (components s)) ≡ path_objects (cond t (cond u (Some Root) (Some Components)) None) (components_objects v 0 (components s))
     go true true h = refl
     go true false h = found_passed v (components s) 0 h
     go false u h = absurd (omega arith)

@@ -5,7 +5,7 @@ use Rattle.std.proofs.Common.{sym, ◌∙◌, subst, ⊎_elim, eqb-true}
 use mathlib.Core.List.Memᴰ
 use mathlib.Core.List.{List, [], ◌∷◌, ◌++◌, map, Memᴰ, append-nil, append_assoc}
 use Rattle.std.proofs.Math.Bool.{cond, and-eq-true_iff}
-use Rattle.std.proofs.Math.Option.{Option, some}
+use Rattle.std.specs.Prelude.{Option, Some}
 use Rattle.std.proofs.lemmas.Bool.{eqb-false}
 use Rattle.record.specs.Operation.{Record}
 use Rattle.log_rules.specs.Slot.{Slot}
@@ -153,7 +153,7 @@ module _ (ops : List Acknowledged) (slots : List Slot) (done : ℕ → List Reco
       }
 
   -- a take
-  pub fetched-take : (p : ℕ) (q : Record) → earliest (is_loss_of p) slots ≡ some q → Fetched ops (removed (is_loss_of p) slots) (λ n. done n ++ cond (eqb p n) (q ∷ []) [])
+  pub fetched-take : (p : ℕ) (q : Record) → earliest (is_loss_of p) slots ≡ Some q → Fetched ops (removed (is_loss_of p) slots) (λ n. done n ++ cond (eqb p n) (q ∷ []) [])
   fetched-take p q e = record { order = k.order; losses = λ n. go n (eqb p n) refl }
     where
       go : (n : ℕ) (b : Bool) → eqb p n ≡ b → chosen (lost_by n) ops ≡ (done n ++ cond b (q ∷ []) []) ++ losses_of n (removed (is_loss_of p) slots)

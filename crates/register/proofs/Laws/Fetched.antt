@@ -1,6 +1,6 @@
 -- What stands between the register, the log and the losses that programs have taken so far.
 use Rattle.std.specs.Prelude.{ℕ, ◌≡◌, List, [], ◌∷◌, ◌++◌, true, false, cond, eqb}
-use Rattle.std.proofs.Math.Option.{Option, none, some}
+use Rattle.std.specs.Prelude.{Option, None, Some}
 use Rattle.record.specs.Operation.{Record}
 use Rattle.log_rules.specs.Change.{losses_of, earliest, is_loss_of}
 use Rattle.log_rules.specs.Slot.{Slot}
@@ -21,8 +21,8 @@ pub record Fetched (ops : List Acknowledged) (slots : List Slot) (done : ℕ →
   pub losses : (p : ℕ) → chosen (lost_by p) ops ≡ done p ++ losses_of p slots
 
 abbrev pub one_or_none : Option Record → List Record
-one_or_none none = []
-one_or_none (some r) = r ∷ []
+one_or_none None = []
+one_or_none (Some r) = r ∷ []
 
 -- what an effect fetches of a program's losses: the earliest, where it is a take of that program
 abbrev pub fetches : ℕ → Model → Effect → List Record

@@ -4,7 +4,7 @@ use Rattle.std.proofs.Common.{arith, ap, ◌∙◌}
 use Rattle.std.proofs.Math.Path.{refl, sym, subst}
 use mathlib.Core.List.Memᴰ
 use mathlib.Core.List.{List, [], ◌∷◌, map, Memᴰ}
-use Rattle.std.proofs.Math.Option.{Option, some}
+use Rattle.std.specs.Prelude.{Option, Some}
 use Rattle.record.specs.Operation.{Record}
 use Rattle.volume_tree.specs.Volume.{Volume}
 use Rattle.volume_apply.specs.Apply.{applies}
@@ -69,8 +69,8 @@ module _ (g : Geometry) (r : Register) (x : Model) (k : Good g r x) where
       (record { kept = kept; timed = k.timed }, record { kept = kept; timed = timed-on r.operations r.happened k.timed })
 
   -- the send of a waiting operation that no waiting one directly precedes
-  free-good : (a : Acknowledged) → Free r.operations a → Sound g (sent_found (some a.recorded) x)
-      → Good g (send_one a.recorded.sequence r) (sent_found (some a.recorded) x)
+  free-good : (a : Acknowledged) → Free r.operations a → Sound g (sent_found (Some a.recorded) x)
+      → Good g (send_one a.recorded.sequence r) (sent_found (Some a.recorded) x)
   free-good a f s =
       record { kept = send-kept g r x k.kept a f s; timed = timed-send r.operations r.happened k.timed (numbers-rise 1 r.operations k.kept.numbers) a f }
 
@@ -80,7 +80,7 @@ module _ (g : Geometry) (r : Register) (x : Model) (k : Good g r x) where
       let m = at-waiting q x.log z d.found in
       let w = free_of g r x k.kept z m.0 d.free in
       subst (λ (n : ℕ). Sound g (perform (send q) x) → Good g (happen (send n) r) (perform (send q) x)) (ap (λ (y : Record). y.sequence) w.1 ∙ m.1)
-      (subst (λ (f : Option Record). Sound g (sent_found f x) → Good g (happen (send w.0.recorded.sequence) r) (sent_found f x)) (ap (λ (y : Record). some y) w.1 ∙ sym d.found) (free-good w.0 w.2))
+      (subst (λ (f : Option Record). Sound g (sent_found f x) → Good g (happen (send w.0.recorded.sequence) r) (sent_found f x)) (ap (λ (y : Record). Some y) w.1 ∙ sym d.found) (free-good w.0 w.2))
 
   -- register and model go together after each effect that may take place
   pub effect-good : (e : Effect) → Possible g x e → Sound g (perform e x) → Good g (happen e r) (perform e x)

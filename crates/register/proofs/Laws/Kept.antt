@@ -6,7 +6,7 @@ use Rattle.std.proofs.Math.Logic.{⊎_elim}
 use mathlib.Core.List.Memᴰ
 use mathlib.Core.List.{List, [], ◌∷◌, ◌++◌, map, Memᴰ, append-nil}
 use Rattle.std.proofs.Math.Bool.{true}
-use Rattle.std.proofs.Math.Option.{some}
+use Rattle.std.specs.Prelude.{Some}
 use Rattle.buffer.specs.Laws.Test.{or_cases}
 use Rattle.record.specs.Operation.{Operation, Record, record_of}
 use Rattle.record.specs.Fields.{valid, fits}
@@ -228,8 +228,8 @@ module _ (g : Geometry) (r : Register) (x : Model) (k : Kept g r x) where
         }
 
   -- the send of a waiting operation that no waiting one directly precedes
-  pub send-kept : (a : Acknowledged) → Free r.operations a → Sound g (sent_found (some a.recorded) x)
-      → Kept g (later (with_operations (map (sending a.recorded.sequence) r.operations) r)) (sent_found (some a.recorded) x)
+  pub send-kept : (a : Acknowledged) → Free r.operations a → Sound g (sent_found (Some a.recorded) x)
+      → Kept g (later (with_operations (map (sending a.recorded.sequence) r.operations) r)) (sent_found (Some a.recorded) x)
   send-kept a f sound =
       let ops = r.operations in
       let v = r.mounted in
@@ -251,7 +251,7 @@ module _ (g : Geometry) (r : Register) (x : Model) (k : Kept g r x) where
       let left : map recorded_of (picked (λ c. is_waiting (h c)) ops) ≡ picked others wl =
       ap (map recorded_of) (picked_same (λ c. is_waiting (h c)) (λ c. is_waiting c && others c.recorded) ops (λ c mc. send-waiting q c))
       ∙ picked-records is_waiting others ops ∙ ap (picked others) (sym k.waiting) in
-      fates-kept h (send-record q) (sent_found (some a.recorded) x) sound refl
+      fates-kept h (send-record q) (sent_found (Some a.recorded) x) sound refl
       (subst (EachApplies recorded_of v) live k.turn)
       (k.view ∙ ap (apply_each recorded_of v) live)
       (ap (λ (w : Volume). apply w a.recorded.operation) server-live ∙ one.after ∙ ap (apply_each recorded_of v) sent-all)

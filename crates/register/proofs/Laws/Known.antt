@@ -2,7 +2,7 @@
 use Rattle.std.specs.Prelude.{◌+◌, ◌<◌}
 use Rattle.std.proofs.Common.{arith, sym, ap, subst, ⊎_elim}
 use mathlib.Core.List.{List, [], ◌∷◌, Memᴰ}
-use Rattle.std.proofs.Math.Option.{Option}
+use Rattle.std.specs.Prelude.{Option}
 use Rattle.record.specs.Operation.{Record}
 use Rattle.volume_tree.specs.Volume.{Volume}
 use Rattle.log_rules.specs.Programs.{holds}

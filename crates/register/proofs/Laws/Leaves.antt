@@ -3,7 +3,7 @@ use Rattle.std.specs.Prelude.{ℕ, ◌≡◌, refl, Bool, true, false, ◌&&◌,
 use Rattle.std.proofs.Common.{arith, sym, ap, ◌∙◌, subst, eqb-true, ne_eqb}
 use mathlib.Core.List.{List, [], ◌∷◌, Memᴰ}
 use Rattle.std.proofs.Math.Bool.{and-eq-true_iff, and-false}
-use Rattle.std.proofs.Math.Option.{some}
+use Rattle.std.specs.Prelude.{Some}
 use Rattle.record.specs.Operation.{Record}
 use Rattle.volume_tree.specs.Volume.{Volume}
 use Rattle.volume_apply.specs.Apply.{applies, apply}
@@ -77,7 +77,7 @@ sends-leave g (q ∷ l) x s d t =
     let f = first-sent g x q l s d in
     let fit = first-applies x.server q l t in
     let can : Sendable x n q = record { found = f.found; fit = fit; free = f.free } in
-    let one : perform (send n) x ≡ sent_found (some q) x = send-is n x q f.found in
+    let one : perform (send n) x ≡ sent_found (Some q) x = send-is n x q f.found in
     let rest = sends-leave g l (perform (send n) x) (perform-sound g x (send n) s (q, can)) f.ready (subst (λ (v : Volume). AppliesInTurn v l) (sym f.server) (rest-applies x.server q l t)) in
     let rise = formed-rising g.objects g.blocks g.capacity x.log s.log in
     let own = waiting-in x.log.slots (d.wait q (Memᴰ.head refl)) in

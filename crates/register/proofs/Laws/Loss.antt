@@ -4,7 +4,7 @@ use Rattle.std.specs.Prelude.{ℕ, ◌<◌, ◌≡◌, refl, Bool, true, false, 
 use Rattle.std.proofs.Common.{arith, sym, ap, ◌∙◌, subst, leb-true, eqb-true, eq-eqb}
 use mathlib.Core.List.{List, [], ◌∷◌, ◌++◌, map, Memᴰ, append-nil}
 use Rattle.std.proofs.Math.Bool.{and-eq-true_iff}
-use Rattle.std.proofs.Math.Option.{some}
+use Rattle.std.specs.Prelude.{Some}
 use Rattle.record.specs.Operation.{Record}
 use Rattle.record.specs.Fields.{encode, between, valid, valid_head}
 use Rattle.record.specs.Decode.{decode_record}
@@ -40,7 +40,7 @@ valid-program r h =
     omega arith
 
 -- the bytes of a valid record are read as it
-pub decoded-record : (r : Record) → valid r ≡ true → decode_record (encode r) ≡ some r
+pub decoded-record : (r : Record) → valid r ≡ true → decode_record (encode r) ≡ Some r
 decoded-record r h = ap decode_record (sym (append-nil (encode r))) ∙ decode-encoded r [] h
 
 pub encode_same : (r q : Record) → valid r ≡ true → valid q ≡ true → encode r ≡ encode q → r ≡ q
@@ -84,7 +84,7 @@ fetched-distinct ops p rise h = encodes-distinct (chosen (lost_by p) ops) (chose
 
 -- and each is read as the record of a lost operation of that program
 pub decoded-own : (ops : List Acknowledged) (p : ℕ) → AllValid ops → (b : List ℕ) → Memᴰ b (map encode (chosen (lost_by p) ops))
-    → (a : Acknowledged) × Among a ops × (is_lost a ≡ true) × (a.recorded.program ≡ p) × (valid a.recorded ≡ true) × (decode_record b ≡ some a.recorded)
+    → (a : Acknowledged) × Among a ops × (is_lost a ≡ true) × (a.recorded.program ≡ p) × (valid a.recorded ≡ true) × (decode_record b ≡ Some a.recorded)
 decoded-own ops p h b m =
     let k = mathlib.Core.List.Memᴰ.of_map encode (chosen (lost_by p) ops) m in
     let c = chosen-in (lost_by p) ops k.0 k.1 in

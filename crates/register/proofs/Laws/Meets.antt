@@ -4,7 +4,7 @@ use Rattle.std.specs.Prelude.{ℕ, ◌+◌, ◌<◌, ◌≡◌, refl, ◌⊎◌,
 use Rattle.std.proofs.Common.{arith, sym, ap, ◌∙◌, subst, ⊎_elim, append_assoc, lt-ltb}
 use mathlib.Core.List.Memᴰ
 use Rattle.std.proofs.lemmas.List.{map-append}
-use Rattle.std.proofs.Math.Option.{Option, none, some}
+use Rattle.std.specs.Prelude.{Option, None, Some}
 use Rattle.std.proofs.lemmas.Bool.{not-true}
 use Rattle.record.specs.Operation.{Operation, Record, operands, Stretch, overwrite_of}
 use Rattle.record.specs.Fields.{member}
@@ -99,17 +99,17 @@ elsewhere-all v (b ∷ l) i t h =
     same-trans (elsewhere-all (apply v b.recorded.operation) l i t.1 (λ c m. h c (Memᴰ.tail m))) (apply-elsewhere v b.recorded.operation t.0 i (h b (Memᴰ.head refl)))
 
 -- an operation that is no overwrite follows whatever has a common operand with it
-follows : (a b : Operation) (i : ℕ) → overwrite_of b ≡ none → member i (operands a) ≡ true → member i (operands b) ≡ true → directly_precedes a b ≡ true
+follows : (a b : Operation) (i : ℕ) → overwrite_of b ≡ None → member i (operands a) ≡ true → member i (operands b) ≡ true → directly_precedes a b ≡ true
 unfolding directly_precedes
 follows a b i e ha hb = rw (in_both i (operands a) (operands b) ha hb, e) (ap not (go (overwrite_of a)))
   where
-    go : (s : Option Stretch) → separate s none ≡ false
-    go none = refl
-    go (some s) = refl
+    go : (s : Option Stretch) → separate s None ≡ false
+    go None = refl
+    go (Some s) = refl
 
 -- an operation a that was issued on a register r, which r₁ is then, and that was sent by the time of s
 module _ (g : Geometry) (r r₁ s : Register) (x x₁ y : Model) (kept : Kept g r x) (issued : Good g r₁ x₁) (good : Good g s y) (since : Since r₁ s) (a : Acknowledged)
-    (added : r₁.operations ≡ r.operations ++ (a ∷ [])) (number : a.recorded.sequence ≡ length r.operations + 1) (plain : overwrite_of a.recorded.operation ≡ none)
+    (added : r₁.operations ≡ r.operations ++ (a ∷ [])) (number : a.recorded.sequence ≡ length r.operations + 1) (plain : overwrite_of a.recorded.operation ≡ None)
     (sent_by : SentAt s a.recorded.sequence) where
   abbrev ops : List Acknowledged
   ops = r.operations

@@ -5,7 +5,7 @@ use Rattle.std.proofs.Common.{◌∙◌}
 use Rattle.std.proofs.Math.Logic.{⊎_elim}
 use mathlib.Core.List.Memᴰ
 use mathlib.Core.List.{List, [], ◌∷◌, ◌++◌, map, Memᴰ, append_assoc, append-nil, map-append}
-use Rattle.std.proofs.Math.Option.{some}
+use Rattle.std.specs.Prelude.{Some}
 use Rattle.record.specs.Operation.{Record}
 use Rattle.record.specs.Fields.{encode}
 use Rattle.volume_tree.specs.Volume.{Volume}
@@ -144,11 +144,11 @@ module _ (g : Geometry) where
 pub mounted-led : (g : Geometry) (s : Buffers) (v : Volume) → Mounted g s v → Led g v (record { buffers = (mount g s).leaves; register = begun v }) (mounted_model v)
 mounted-led g s v m =
     let mh = mount-holds g s m.accepted in
-    let both : some mh.0 ≡ some v = sym mh.1 ∙ m.server in
+    let both : Some mh.0 ≡ Some v = sym mh.1 ∙ m.server in
     let v-is : mh.0 ≡ v = cc in
     let holds : Holds g (mount g s).leaves (mounted_model v) = subst (λ (w : Volume). Holds g (mount g s).leaves (mounted_model w)) v-is mh.2 in
     record { holds = holds; good = begun-good g v holds.sound; known = begun-known v; mounted = refl }
 
 -- a model that buffers store is read from them
-pub read-once : (g : Geometry) (s : Buffers) (x y : Model) → Holds g s x → decode_model g s ≡ some y → x ≡ y
-read-once g s x y h e = let both : some x ≡ some y = sym h.read ∙ e in cc
+pub read-once : (g : Geometry) (s : Buffers) (x y : Model) → Holds g s x → decode_model g s ≡ Some y → x ≡ y
+read-once g s x y h e = let both : Some x ≡ Some y = sym h.read ∙ e in cc

@@ -5,7 +5,7 @@ use Rattle.std.proofs.Math.Path.{refl}
 use Rattle.std.proofs.Common.{sym, ap, ◌∙◌, subst, subst₂, ⊎_elim, eq-eqb}
 use mathlib.Core.List.{List, [], ◌∷◌, ◌++◌, Memᴰ}
 use Rattle.std.proofs.Math.Bool.{and-eq-true_iff}
-use Rattle.std.proofs.Math.Option.{Option, none, some}
+use Rattle.std.specs.Prelude.{Option, None, Some}
 use Rattle.returned.specs.Returned
 use Rattle.names.specs.Name.{same_name}
 use Rattle.names.proofs.Laws.Name.{same_refl}
@@ -46,11 +46,11 @@ none_alike n b v w t =
     t.differ ((well-formed-sound n b v w).one t.directory m t.one t.other (named t.one t.first t.same) (named t.other t.second (same_refl m)))
 
 -- so bytes that tell of two are not of the right form
-alike-unread : (n b : ℕ) (s : List ℕ) → TwoAlike (read_volume n b s) → decode_volume n b s ≡ none
+alike-unread : (n b : ℕ) (s : List ℕ) → TwoAlike (read_volume n b s) → decode_volume n b s ≡ None
 unfolding decode_volume
 alike-unread n b s t = go (well_formed n b (read_volume n b s)) refl
   where
-    go : (f : Bool) → well_formed n b (read_volume n b s) ≡ f → decode_volume n b s ≡ none
+    go : (f : Bool) → well_formed n b (read_volume n b s) ≡ f → decode_volume n b s ≡ None
     go true e = absurd (none_alike n b (read_volume n b s) e t)
     go false e = rw e
 
@@ -69,16 +69,16 @@ alike-refused g s f t c =
     ⊎_elim (λ (h : TwoAlike (read_volume g.objects g.blocks s.server)). rw (f, alike-unread _ _ _ h))
     (λ (h : TwoAlike (read_volume g.objects g.blocks s.view)). rw (f, alike-unread _ _ _ h, unjoined (decode_volume g.objects g.blocks s.server) _)) t
   where
-    unjoined : (x : Option Volume) (l : Option Log) → join_model x none l ≡ none
-    unjoined none l = refl
-    unjoined (some v) l = refl
+    unjoined : (x : Option Volume) (l : Option Log) → join_model x None l ≡ None
+    unjoined None l = refl
+    unjoined (Some v) l = refl
 
 -- what an accepted rename in one parent to another spelling issues
 pub record Issued (t : Told) (i : Issuer) (d : ℕ) (n k : List ℕ) : Type 0 where
   pub object : ℕ
-  pub found : search t.view d n ≡ some object
-  pub operation : issues t (rename i d n d k) ≡ Operation.rename object d d none n k ∷ []
-  pub fit : applies t.view (Operation.rename object d d none n k) ≡ true
+  pub found : search t.view d n ≡ Some object
+  pub operation : issues t (rename i d n d k) ≡ Operation.rename object d d None n k ∷ []
+  pub fit : applies t.view (Operation.rename object d d None n k) ≡ true
 
 spelling-issued : (g : Geometry) (x : Model) → Sound g x → (i : Issuer) (d : ℕ) (n k : List ℕ) → (answer_of g (rename i d n d k) x).returned ≡ 0 → same_name n k ≡ true → Issued (told_of x) i d n k
 unfolding answer_of
@@ -86,8 +86,8 @@ spelling-issued g x s i d n k a e =
     let v = x.view in
     let f = rename-accepted g x s i d n d k a in
     let o = f.0 in
-    let none-displaced : displaced o (search v d k) ≡ none =
-    ap (displaced o) (sym (search-spelling v d n k e) ∙ f.1) ∙ ap (λ (t : Bool). cond t none (some o)) (eq-eqb o o refl) in
+    let none-displaced : displaced o (search v d k) ≡ None =
+    ap (displaced o) (sym (search-spelling v d n k e) ∙ f.1) ∙ ap (λ (t : Bool). cond t None (Some o)) (eq-eqb o o refl) in
     record {
       object = o;
       found = f.1;
@@ -147,7 +147,7 @@ spellings g s v mounted cs =
         let after = next-led g v m.before x met.led m.call in
         let accepted : (answer_of g m.call x).returned ≡ 0 = ap (λ (y : Answer). y.returned) (sym met.answer) ∙ w.accepted in
         let i = spelling-issued g x met.led.good.kept.sound w.by w.parent w.name w.second_name (ap (λ (c : Call). (answer_of g c x).returned) (sym w.call) ∙ accepted) w.same in
-        let o : Operation = Operation.rename i.object w.parent w.parent none w.name w.second_name in
+        let o : Operation = Operation.rename i.object w.parent w.parent None w.name w.second_name in
         let effects : effects_in g m.call x ≡ issuing w.by.program (o ∷ []) =
         accepted-effects g m.call x accepted ∙ ap (λ (c : Call). accepted_effects c (told_of x)) w.call ∙ ap (issuing w.by.program) i.operation in
         let seen : view_of r ≡ x.view = view-replayed g r x met.led.good.kept in

@@ -4,7 +4,7 @@ use Rattle.std.proofs.Common.{arith, sym, ◌∙◌, subst, length-append, eqb-t
 use Rattle.std.proofs.Math.Path.{ap}
 use mathlib.Core.List.{List, [], ◌∷◌, ◌++◌, map, append-nil}
 use Rattle.std.proofs.Math.Bool.{true, false}
-use Rattle.std.proofs.Math.Option.{Option, none, some}
+use Rattle.std.specs.Prelude.{Option, None, Some}
 use Rattle.std.proofs.lemmas.List.{take-append-le}
 use Rattle.std.proofs.Math.Seq.{take-length}
 use Rattle.returned.specs.Returned
@@ -83,7 +83,7 @@ abbrev take_answer : List ℕ → Option Record → Answer
 take_answer own f = answer Returned.accepted (length (loss_bytes f) ∷ []) (patch own 0 (loss_bytes f))
 
 -- without a loss, a take is refused
-no-loss-refused : (a b : Bool) → lowest_number (take_rows none a b) ≡ 0 → ⊥
+no-loss-refused : (a b : Bool) → lowest_number (take_rows None a b) ≡ 0 → ⊥
 unfolding lowest_number
 no-loss-refused true true e = let z : ◌≡◌ {A = ℕ} 3 0 = e in omega arith
 no-loss-refused true false e = let z : ◌≡◌ {A = ℕ} 3 0 = e in omega arith
@@ -104,8 +104,8 @@ take-wrote x q own p = go (earliest (is_loss_of q) x.log.slots) refl
 
     table : (f : Option Record) → earliest (is_loss_of q) x.log.slots ≡ f → (n : ℕ) → n ≡ lowest_number (take_rows f (not (ltb q 32)) (ltb (length own) 1040)) → (b : Bool) → eqb n 0 ≡ b
         → Goal (cond b (take_answer own f) (refusal n (take_loss q own)))
-    table none e n w true z = absurd (no-loss-refused (not (ltb q 32)) (ltb (length own) 1040) (sym w ∙ eqb-true n 0 z))
-    table (some rec) e n w true z =
+    table None e n w true z = absurd (no-loss-refused (not (ltb q 32)) (ltb (length own) 1040) (sym w ∙ eqb-true n 0 z))
+    table (Some rec) e n w true z =
         here rec (eqb q p) ∙ ap (map encode) (sym (fetched_one p x (Effect.take q) ∙ ap (λ (o : Option Record). cond (eqb q p) (one_or_none o) []) e))
     table f e n w false z =
         subst (λ (b : Bool). cond (b && eqb q p) (take (get_or (refusal n (take_loss q own)).results 0 0) own ∷ []) [] ≡ map encode (fetched_in p x (cond b (Effect.take q ∷ []) []))) (sym z) refl
@@ -138,24 +138,24 @@ wrote-taken g (recovery q (Class.take own)) x p = take-wrote x q own p
 wrote-taken g (recovery q Class.renew) x p = quiet g x p (renew q) refl refl
 
 -- a take is refused with 16 only where its program has no loss
-pub refused_none : (g : Geometry) (p : ℕ) (own : List ℕ) (x : Model) → (answer_of g (take_loss p own) x).returned ≡ Returned.none → earliest (is_loss_of p) x.log.slots ≡ none
+pub refused_none : (g : Geometry) (p : ℕ) (own : List ℕ) (x : Model) → (answer_of g (take_loss p own) x).returned ≡ Returned.none → earliest (is_loss_of p) x.log.slots ≡ None
 unfolding answer_of take_of lowest_number
 refused_none g p own x = go (earliest (is_loss_of p) x.log.slots) (not (ltb p 32)) (ltb (length own) 1040)
   where
-    go : (f : Option Record) (a b : Bool) → (unless (take_loss p own) (take_rows f a b) (take_answer own f)).returned ≡ Returned.none → f ≡ none
-    go none a b e = refl
-    go (some r) true true e = let z : ◌≡◌ {A = ℕ} 3 16 = e in absurd (omega arith)
-    go (some r) true false e = let z : ◌≡◌ {A = ℕ} 3 16 = e in absurd (omega arith)
-    go (some r) false true e = let z : ◌≡◌ {A = ℕ} 19 16 = e in absurd (omega arith)
-    go (some r) false false e = let z : ◌≡◌ {A = ℕ} 0 16 = e in absurd (omega arith)
+    go : (f : Option Record) (a b : Bool) → (unless (take_loss p own) (take_rows f a b) (take_answer own f)).returned ≡ Returned.none → f ≡ None
+    go None a b e = refl
+    go (Some r) true true e = let z : ◌≡◌ {A = ℕ} 3 16 = e in absurd (omega arith)
+    go (Some r) true false e = let z : ◌≡◌ {A = ℕ} 3 16 = e in absurd (omega arith)
+    go (Some r) false true e = let z : ◌≡◌ {A = ℕ} 19 16 = e in absurd (omega arith)
+    go (Some r) false false e = let z : ◌≡◌ {A = ℕ} 0 16 = e in absurd (omega arith)
 
 -- and where it has none, the log keeps none of its losses
-pub none_left : (p : ℕ) (l : List Slot) → earliest (is_loss_of p) l ≡ none → losses_of p l ≡ []
+pub none_left : (p : ℕ) (l : List Slot) → earliest (is_loss_of p) l ≡ None → losses_of p l ≡ []
 unfolding earliest losses_of
 none_left p [] e = refl
 none_left p (s ∷ l) e = go (is_loss_of p s) (none_left p l) e
   where
-    go : (b : Bool) → (earliest (is_loss_of p) l ≡ none → losses_of p l ≡ []) → cond b (some s.recorded) (earliest (is_loss_of p) l) ≡ none → cond b (s.recorded ∷ losses_of p l) (losses_of p l) ≡ []
+    go : (b : Bool) → (earliest (is_loss_of p) l ≡ None → losses_of p l ≡ []) → cond b (Some s.recorded) (earliest (is_loss_of p) l) ≡ None → cond b (s.recorded ∷ losses_of p l) (losses_of p l) ≡ []
     go true k h = let z : ◌≡◌ {A = ℕ} 0 1 = cc in absurd (omega arith)
     go false k h = k h
 

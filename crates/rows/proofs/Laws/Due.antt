@@ -1,17 +1,17 @@
 -- The time now never runs back, and a due time is never before the issue; both stop at the last time. Assumes nothing.
 use Rattle.std.specs.Prelude.{ℕ, ◌≤◌, ◌≡◌, refl, List, []}
 use Rattle.std.proofs.Common.{arith}
-use Rattle.std.proofs.Math.Option.{Option, none, some}
-use Rattle.rows.specs.Rows.{Row}
+use Rattle.std.specs.Prelude.{Option, None, Some}
+use Rattle.rows.specs.declared.Row.{Row}
 use Rattle.rows.specs.Due.{last_time, time_now, seconds_for, due_after, due_time}
 
 after_last : (time : ℕ) (o : Option ℕ) → due_after time o ≤ last_time
-after_last time none = omega arith
-after_last time (some s) = omega arith
+after_last time None = omega arith
+after_last time (Some s) = omega arith
 
 after-later : (time : ℕ) (o : Option ℕ) → time ≤ last_time → time ≤ due_after time o
-after-later time none h = h
-after-later time (some s) h = omega arith
+after-later time None h = h
+after-later time (Some s) h = omega arith
 
 -- A due time is a time.
 pub due-last : (time n : ℕ) (l : List Row) → due_time time n l ≤ last_time

@@ -4,11 +4,12 @@ use Rattle.std.proofs.Common.{arith, sym, ap, ◌∙◌, inl, inr, leb-true, ltb
 use Rattle.std.proofs.Math.Decide.{dec_lt, dec_le}
 use mathlib.Core.List.Memᴰ
 use mathlib.Core.List.{List, [], ◌∷◌, Memᴰ}
-use Rattle.std.proofs.Math.Option.{some}
+use Rattle.std.specs.Prelude.{Some}
 use Rattle.std.proofs.Math.Bool.{and-eq-true_iff}
 use Rattle.std.proofs.lemmas.Bool.{false≢true}
 use Rattle.buffer.specs.Laws.Test.{either, or_left, or_right}
-use Rattle.rows.specs.Rows.{Row, in_row, rows_with, last_length, EachInOne, any_row, is_left_out, is_doubled, has_gap, has_overlap}
+use Rattle.rows.specs.declared.Row.{Row}
+use Rattle.rows.specs.Rows.{in_row, rows_with, last_length, EachInOne, any_row, is_left_out, is_doubled, has_gap, has_overlap}
 use Rattle.rows.specs.Due.{seconds_for}
 
 -- a test that is not passed fails
@@ -181,23 +182,23 @@ each-in-one l = (λ e. (fails (has_gap l) (gapless e), fails (has_overlap l) (si
     one x n h (no k) (no j) = absurd (false≢true (sym x.0 ∙ (gap-exact l).1 (n, h, omega arith)))
 
 -- The seconds for a length that lies in one row are that row's.
-one-seconds : (n : ℕ) (l : List Row) (r : Row) → rows_with n l ≡ 1 → Memᴰ r l → in_row n r ≡ true → seconds_for n l ≡ some r.seconds
+one-seconds : (n : ℕ) (l : List Row) (r : Row) → rows_with n l ≡ 1 → Memᴰ r l → in_row n r ≡ true → seconds_for n l ≡ Some r.seconds
 unfolding seconds_for
 one-seconds n [] r o m i = absurd (Memᴰ.not-nil m)
 one-seconds n (a ∷ l) r o m i = go (one-seconds n l r) (in_row n a) refl (Memᴰ.cases_cons m)
   where
-    go : (rows_with n l ≡ 1 → Memᴰ r l → in_row n r ≡ true → seconds_for n l ≡ some r.seconds)
-        → (t : Bool) → in_row n a ≡ t → (r ≡ a) ⊎ Memᴰ r l → seconds_for n (a ∷ l) ≡ some r.seconds
-    go ih true e (inl p) = rw e (ap (λ (b : Row). some b.seconds) (sym p))
+    go : (rows_with n l ≡ 1 → Memᴰ r l → in_row n r ≡ true → seconds_for n l ≡ Some r.seconds)
+        → (t : Bool) → in_row n a ≡ t → (r ≡ a) ⊎ Memᴰ r l → seconds_for n (a ∷ l) ≡ Some r.seconds
+    go ih true e (inl p) = rw e (ap (λ (b : Row). Some b.seconds) (sym p))
     go ih true e (inr k) = absurd (omega (arith, with-yes n a l e, row-with n l r k i))
     go ih false e (inl p) = absurd (false≢true (sym e ∙ ap (in_row n) (sym p) ∙ i))
     go ih false e (inr k) = rw e (ih (omega (arith, with-no n a l e)) k i)
 
-pub row-seconds : (l : List Row) (n : ℕ) (r : Row) → EachInOne l → n ≤ last_length → Memᴰ r l → in_row n r ≡ true → seconds_for n l ≡ some r.seconds
+pub row-seconds : (l : List Row) (n : ℕ) (r : Row) → EachInOne l → n ≤ last_length → Memᴰ r l → in_row n r ≡ true → seconds_for n l ≡ Some r.seconds
 row-seconds l n r e h m i = one-seconds n l r (e n h) m i
 
 -- Each length up to 65,536 has a row that holds it, and its seconds.
-pub held-seconds : (l : List Row) (n : ℕ) → EachInOne l → n ≤ last_length → (r : Row) × Memᴰ r l × (in_row n r ≡ true) × (seconds_for n l ≡ some r.seconds)
+pub held-seconds : (l : List Row) (n : ℕ) → EachInOne l → n ≤ last_length → (r : Row) × Memᴰ r l × (in_row n r ≡ true) × (seconds_for n l ≡ Some r.seconds)
 held-seconds l n e h =
     let x = with_row n l (omega (arith, e n h)) in
     (x.0, x.1, x.2, row-seconds l n x.0 e h x.1 x.2)

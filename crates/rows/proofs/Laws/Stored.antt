@@ -7,7 +7,7 @@ use Rattle.std.proofs.lemmas.List.{length-replicate, replicate-append-replicate,
 use Rattle.buffer.specs.Numeral.{bytes, numeral, Bytes}
 use Rattle.buffer.specs.Laws.Numeral.{numeral-bytes, numeral-below, bytes-part, number-back}
 use Rattle.buffer.specs.Laws.Zero.{zeros-at}
-use Rattle.rows.specs.Rows.{Row}
+use Rattle.rows.specs.declared.Row.{Row}
 use Rattle.rows.specs.Stored.{row_bytes, most_rows, encode_row, encode_rows, read_row, read_rows, rows_in, rows_fit, fits_four, all_fit_four, rows_lent}
 
 length-row : (r : Row) → length (encode_row r) ≡ row_bytes

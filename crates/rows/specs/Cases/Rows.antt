@@ -1,7 +1,8 @@
 -- Document 02, K5: what the definitions say of some rows, and when an operation is due by them: one table, proved through one statement.
 use Rattle.std.specs.Prelude.{ℕ, ◌≡◌, refl, List, [], ◌∷◌, map, Bool, true, false}
 use Rattle.std.proofs.Common.{arith}
-use Rattle.rows.specs.Rows.{Row, rows_with, any_row, has_gap, has_overlap, has_bad_seconds}
+use Rattle.rows.specs.declared.Row.{Row}
+use Rattle.rows.specs.Rows.{rows_with, any_row, has_gap, has_overlap, has_bad_seconds}
 use Rattle.rows.specs.Due.{time_now, seconds_for, due_time}
 
 abbrev pub row : ℕ → ℕ → ℕ → Row

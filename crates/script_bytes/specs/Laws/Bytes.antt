@@ -6,12 +6,12 @@ use Rattle.buffer.specs.Patch.{Put}
 use Rattle.buffer.specs.Laws.Patch.{put-none, put-set, put_then}
 use Rattle.script_bytes.specs.Bytes.{hex_digit, hex}
 
-hex-length : (s : List ℕ) → length (hex s) ≡ 2 * length s
+pub hex-length : (s : List ℕ) → length (hex s) ≡ 2 * length s
 unfolding hex
 hex-length [] = refl
 hex-length (b ∷ s) = omega (arith, hex-length s)
 
-hex-snoc : (s : List ℕ) (b : ℕ) → hex (s ++ (b ∷ [])) ≡ hex s ++ (hex_digit (b / 16) ∷ hex_digit (b % 16) ∷ [])
+pub hex-snoc : (s : List ℕ) (b : ℕ) → hex (s ++ (b ∷ [])) ≡ hex s ++ (hex_digit (b / 16) ∷ hex_digit (b % 16) ∷ [])
 unfolding hex
 hex-snoc [] b = refl
 hex-snoc (x ∷ s) b = ap (λ (l : List ℕ). hex_digit (x / 16) ∷ hex_digit (x % 16) ∷ l) (hex-snoc s b)
@@ -20,7 +20,7 @@ hex-snoc (x ∷ s) b = ap (λ (l : List ℕ). hex_digit (x / 16) ∷ hex_digit (
 abbrev pub NoDigit : ℕ → Type 0
 NoDigit c = (d : ℕ) → d < 16 → c ≡ hex_digit d → ⊥
 
-hex-digits : (s : List ℕ) → AllBytes s → (k : ℕ) → k < length (hex s) → NoDigit (get_or (hex s) k 0) → ⊥
+pub hex-digits : (s : List ℕ) → AllBytes s → (k : ℕ) → k < length (hex s) → NoDigit (get_or (hex s) k 0) → ⊥
 unfolding hex
 hex-digits [] a k h n = omega arith
 hex-digits (b ∷ s) a zero h n = n (b / 16) (omega (arith, a 0)) refl

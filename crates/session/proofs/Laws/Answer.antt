@@ -1,10 +1,13 @@
 -- What answers tell: a refusal's results are 0 and its buffer is as before; an accepted change tells the next number; an fsync what it
 -- needs, what it sent, or where it stopped; and why a call says that something is damaged.
-use Rattle.std.specs.Prelude.{ℕ, ◌<◌, ◌≡◌, List, [], ◌∷◌, ◌++◌, Bool, true, false, not, cond, length, replicate, ltb}
+use Rattle.volume_questions.specs.declared.object.ObjectError.TheVariants.{BadNumber, NoObject}
+use Rattle.volume_lookup.specs.declared.lookup.LookupError.TheVariants.{BadName, LongName, NoObject, WrongKind}
+use Rattle.volume_lookup.specs.declared.lookup.LookupError.{LookupError}
+use Rattle.std.specs.Prelude.{ℕ, ◌<◌, ◌≡◌, List, [], ◌∷◌, ◌++◌, Bool, true, false, not, cond, length, replicate, ltb, Result, Ok, Err}
 use Rattle.std.proofs.Common.{arith, sym, ◌∙◌, subst}
 use Rattle.std.proofs.Math.Path.{refl, ap}
 use Rattle.std.proofs.lemmas.Bool.{false≢true}
-use Rattle.std.proofs.Math.Option.{Option, none, some}
+use Rattle.std.specs.Prelude.{Option, None, Some}
 use Rattle.std.proofs.Math.ListN
 use Rattle.returned.specs.Returned
 use Rattle.record.specs.Operation.{Operation, Record}
@@ -13,13 +16,11 @@ use Rattle.volume_entry.specs.Entry.{Entry, is_file, is_directory, contents_of}
 use Rattle.volume_tree.specs.Volume.{Volume, entry_at, search}
 use Rattle.volume_apply.specs.Apply.{applies}
 use Rattle.volume_questions.specs.declared.object.Stat.{Stat}
-use Rattle.volume_questions.specs.declared.object.Stat.TheVariants.{Is, BadNumber as StatBadNumber, NoObject as StatNoObject}
-use Rattle.volume_questions.specs.declared.reading.Copied.{Copied}
-use Rattle.volume_questions.specs.declared.reading.Copied.TheVariants.{Bytes as CopiedBytes, BadNumber as ReadBadNumber, NoObject as ReadNoObject, WrongKind as ReadWrongKind, BadRange}
-use Rattle.volume_questions.specs.declared.listing.Listed.{Listed}
-use Rattle.volume_questions.specs.declared.listing.Listed.TheVariants.{Bytes as ListedBytes, BadNumber as ListBadNumber, NoObject as ListNoObject, WrongKind as ListWrongKind, Short}
-use Rattle.volume_lookup.specs.declared.lookup.Reached.{Reached}
-use Rattle.volume_lookup.specs.declared.lookup.Reached.TheVariants.{Found, BadName, LongName, NoObject, WrongKind}
+use Rattle.volume_questions.specs.declared.object.ObjectError.{ObjectError}
+use Rattle.volume_questions.specs.declared.reading.ReadError.{ReadError}
+use Rattle.volume_questions.specs.declared.reading.ReadError.TheVariants.{BadNumber as ReadBadNumber, NoObject as ReadNoObject, WrongKind as ReadWrongKind, BadRange}
+use Rattle.volume_questions.specs.declared.listing.ListError.{ListError}
+use Rattle.volume_questions.specs.declared.listing.ListError.TheVariants.{BadNumber as ListBadNumber, NoObject as ListNoObject, WrongKind as ListWrongKind, Short}
 use Rattle.volume_questions.specs.Listing.{listing}
 use Rattle.volume_lookup.specs.Lookup.{lookup_answer, reached_number, reached_results}
 use Rattle.volume_questions.specs.Answer.{list_answer, list_left, list_leaves, list_number, list_results, stat_answer, stat_number, stat_results, read_answer, read_left, read_leaves, read_number, read_results}
@@ -59,31 +60,31 @@ plain-unless c rows a f n = go (decided c rows a)
     go (passes z e) = subst (Plain c) (sym e) (f (λ y. n (ap (λ (b : Answer). b.returned) e ∙ y)))
     go (refuses z e) = subst (Plain c) (sym e) (record { results = refl; own = refl })
 
-plain-reached : (p : ℕ) (s : List ℕ) (r : Reached) → (reached_number r ≡ 0 → ⊥) → Plain (lookup p s) (answer (reached_number r) (reached_results r) [])
-plain-reached p s (Found o) n = absurd (n refl)
-plain-reached p s BadName n = record { results = refl; own = refl }
-plain-reached p s LongName n = record { results = refl; own = refl }
-plain-reached p s NoObject n = record { results = refl; own = refl }
-plain-reached p s WrongKind n = record { results = refl; own = refl }
+plain-reached : (p : ℕ) (s : List ℕ) (r : Result ℕ LookupError) → (reached_number r ≡ 0 → ⊥) → Plain (lookup p s) (answer (reached_number r) (reached_results r) [])
+plain-reached p s (Ok o) n = absurd (n refl)
+plain-reached p s (Err BadName) n = record { results = refl; own = refl }
+plain-reached p s (Err LongName) n = record { results = refl; own = refl }
+plain-reached p s (Err NoObject) n = record { results = refl; own = refl }
+plain-reached p s (Err WrongKind) n = record { results = refl; own = refl }
 
-plain-listed : (p o : ℕ) (own s : List ℕ) (r : Listed) → (list_number r ≡ 0 → ⊥) → Plain (list p o own) (answer (list_number r) (list_results r) (list_left r s own))
-plain-listed p o own s (ListedBytes k) n = absurd (n refl)
-plain-listed p o own s ListBadNumber n = record { results = refl; own = refl }
-plain-listed p o own s ListNoObject n = record { results = refl; own = refl }
-plain-listed p o own s ListWrongKind n = record { results = refl; own = refl }
-plain-listed p o own s Short n = record { results = refl; own = refl }
+plain-listed : (p o : ℕ) (own s : List ℕ) (r : Result ℕ ListError) → (list_number r ≡ 0 → ⊥) → Plain (list p o own) (answer (list_number r) (list_results r) (list_left r s own))
+plain-listed p o own s (Ok k) n = absurd (n refl)
+plain-listed p o own s (Err ListBadNumber) n = record { results = refl; own = refl }
+plain-listed p o own s (Err ListNoObject) n = record { results = refl; own = refl }
+plain-listed p o own s (Err ListWrongKind) n = record { results = refl; own = refl }
+plain-listed p o own s (Err Short) n = record { results = refl; own = refl }
 
-plain-stat : (p o : ℕ) (r : Stat) → (stat_number r ≡ 0 → ⊥) → Plain (stat p o) (answer (stat_number r) (stat_results r) [])
-plain-stat p o (Is k l u) n = absurd (n refl)
-plain-stat p o StatBadNumber n = record { results = refl; own = refl }
-plain-stat p o StatNoObject n = record { results = refl; own = refl }
+plain-stat : (p o : ℕ) (r : Result Stat ObjectError) → (stat_number r ≡ 0 → ⊥) → Plain (stat p o) (answer (stat_number r) (stat_results r) [])
+plain-stat p o (Ok t) n = absurd (n refl)
+plain-stat p o (Err BadNumber) n = record { results = refl; own = refl }
+plain-stat p o (Err NoObject) n = record { results = refl; own = refl }
 
-plain_copied : (p o f : ℕ) (own s : List ℕ) (r : Copied) → (read_number r ≡ 0 → ⊥) → Plain (read p o f own) (answer (read_number r) (read_results r) (read_left r s own))
-plain_copied p o f own s (CopiedBytes k) n = absurd (n refl)
-plain_copied p o f own s ReadBadNumber n = record { results = refl; own = refl }
-plain_copied p o f own s ReadNoObject n = record { results = refl; own = refl }
-plain_copied p o f own s ReadWrongKind n = record { results = refl; own = refl }
-plain_copied p o f own s BadRange n = record { results = refl; own = refl }
+plain_copied : (p o f : ℕ) (own s : List ℕ) (r : Result ℕ ReadError) → (read_number r ≡ 0 → ⊥) → Plain (read p o f own) (answer (read_number r) (read_results r) (read_left r s own))
+plain_copied p o f own s (Ok k) n = absurd (n refl)
+plain_copied p o f own s (Err ReadBadNumber) n = record { results = refl; own = refl }
+plain_copied p o f own s (Err ReadNoObject) n = record { results = refl; own = refl }
+plain_copied p o f own s (Err ReadWrongKind) n = record { results = refl; own = refl }
+plain_copied p o f own s (Err BadRange) n = record { results = refl; own = refl }
 
 plain-question : (p : ℕ) (v : Volume) (q : Question) → ((question_answer v q).returned ≡ 0 → ⊥) → Plain (question p q) (question_answer v q)
 unfolding list_leaves read_leaves
@@ -128,35 +129,35 @@ module _ (g : Geometry) (x : Model) where
 
 -- "Damaged: .. an operation being sent does not apply to the server": only a push and an fsync say so, of well-formed buffers
 pub data Damaged (x : Model) : Call → Type 0 where
-  by_push : (q : ℕ) (r : Record) → waiting_at q x.log ≡ some r → any (λ a. before a r) (waiting_of x.log.slots) ≡ false → applies x.server r.operation ≡ false → Damaged x (push q)
+  by_push : (q : ℕ) (r : Record) → waiting_at q x.log ≡ Some r → any (λ a. before a r) (waiting_of x.log.slots) ≡ false → applies x.server r.operation ≡ false → Damaged x (push q)
   by_sync : (p o k : ℕ)
       → applying (ListN.take k (needed o (waiting_of x.log.slots))) x.server < length (ListN.take k (needed o (waiting_of x.log.slots))) → Damaged x (fsync p o k)
 
-reached-sound : (r : Reached) → reached_number r ≡ Returned.damaged → ⊥
-reached-sound (Found o) e = omega arith
-reached-sound BadName e = omega arith
-reached-sound LongName e = omega arith
-reached-sound NoObject e = omega arith
-reached-sound WrongKind e = omega arith
+reached-sound : (r : Result ℕ LookupError) → reached_number r ≡ Returned.damaged → ⊥
+reached-sound (Ok o) e = omega arith
+reached-sound (Err BadName) e = omega arith
+reached-sound (Err LongName) e = omega arith
+reached-sound (Err NoObject) e = omega arith
+reached-sound (Err WrongKind) e = omega arith
 
-listed-sound : (r : Listed) → list_number r ≡ Returned.damaged → ⊥
-listed-sound (ListedBytes k) e = omega arith
-listed-sound ListBadNumber e = omega arith
-listed-sound ListNoObject e = omega arith
-listed-sound ListWrongKind e = omega arith
-listed-sound Short e = omega arith
+listed-sound : (r : Result ℕ ListError) → list_number r ≡ Returned.damaged → ⊥
+listed-sound (Ok k) e = omega arith
+listed-sound (Err ListBadNumber) e = omega arith
+listed-sound (Err ListNoObject) e = omega arith
+listed-sound (Err ListWrongKind) e = omega arith
+listed-sound (Err Short) e = omega arith
 
-stat-sound : (r : Stat) → stat_number r ≡ Returned.damaged → ⊥
-stat-sound (Is k l u) e = omega arith
-stat-sound StatBadNumber e = omega arith
-stat-sound StatNoObject e = omega arith
+stat-sound : (r : Result Stat ObjectError) → stat_number r ≡ Returned.damaged → ⊥
+stat-sound (Ok t) e = omega arith
+stat-sound (Err BadNumber) e = omega arith
+stat-sound (Err NoObject) e = omega arith
 
-copied-sound : (r : Copied) → read_number r ≡ Returned.damaged → ⊥
-copied-sound (CopiedBytes k) e = omega arith
-copied-sound ReadBadNumber e = omega arith
-copied-sound ReadNoObject e = omega arith
-copied-sound ReadWrongKind e = omega arith
-copied-sound BadRange e = omega arith
+copied-sound : (r : Result ℕ ReadError) → read_number r ≡ Returned.damaged → ⊥
+copied-sound (Ok k) e = omega arith
+copied-sound (Err ReadBadNumber) e = omega arith
+copied-sound (Err ReadNoObject) e = omega arith
+copied-sound (Err ReadWrongKind) e = omega arith
+copied-sound (Err BadRange) e = omega arith
 
 question-sound : (v : Volume) (q : Question) → (question_answer v q).returned ≡ Returned.damaged → ⊥
 question-sound v (Class.lookup s) e = reached-sound (lookup_answer v s) e
@@ -190,15 +191,15 @@ push-damaged q x e = go (waiting_at q x.log) refl e
     fails false h = refl
 
     go : (f : Option Record) → waiting_at q x.log ≡ f → (unless (push q) (push_rows w f) (push_answer x.server f)).returned ≡ Returned.damaged → Damaged x (push q)
-    go none is h =
-        let o = own-number Returned.damaged (push q) (push_rows w none) (push_answer x.server none) refl refl (λ z. omega arith) h in
-        absurd (false≢true (sym (passed (push_rows w none) refl o.0).1.0))
-    go (some r) is h =
-        let o = own-number Returned.damaged (push q) (push_rows w (some r)) (push_answer x.server (some r)) refl refl (λ z. omega arith) h in
-        by_push q r is (sym (direct-decides w r) ∙ (passed (push_rows w (some r)) refl o.0).0) (fails (applies x.server r.operation) (ap (λ (b : Answer). b.returned) (sym o.1) ∙ h))
+    go None is h =
+        let o = own-number Returned.damaged (push q) (push_rows w None) (push_answer x.server None) refl refl (λ z. omega arith) h in
+        absurd (false≢true (sym (passed (push_rows w None) refl o.0).1.0))
+    go (Some r) is h =
+        let o = own-number Returned.damaged (push q) (push_rows w (Some r)) (push_answer x.server (Some r)) refl refl (λ z. omega arith) h in
+        by_push q r is (sym (direct-decides w r) ∙ (passed (push_rows w (Some r)) refl o.0).0) (fails (applies x.server r.operation) (ap (λ (b : Answer). b.returned) (sym o.1) ∙ h))
 
 -- where the operation of the number waits, none that waits precedes it, and it applies, a push is accepted
-pub push-passes : (q : ℕ) (x : Model) (r : Record) → waiting_at q x.log ≡ some r → any (λ a. before a r) (waiting_of x.log.slots) ≡ false → applies x.server r.operation ≡ true
+pub push-passes : (q : ℕ) (x : Model) (r : Record) → waiting_at q x.log ≡ Some r → any (λ a. before a r) (waiting_of x.log.slots) ≡ false → applies x.server r.operation ≡ true
     → push_of q x ≡ answer Returned.accepted [] []
 unfolding push_of Refusal.lowest_number
 push-passes q x r is free fit =

@@ -5,7 +5,7 @@ use Rattle.std.proofs.Math.Path.{refl}
 use mathlib.Core.List.{List, [], ◌∷◌, ◌++◌}
 use Rattle.std.proofs.Math.Bool.{true, false}
 use Rattle.std.proofs.lemmas.Bool.{false≢true, not-false}
-use Rattle.std.proofs.Math.Option.{Option, none, some}
+use Rattle.std.specs.Prelude.{Option, None, Some}
 use Rattle.std.proofs.Math.ListN
 use Rattle.std.proofs.Math.Dec.{eqb}
 use Rattle.returned.specs.Returned
@@ -57,11 +57,11 @@ push-accepted q x e = go (waiting_at q x.log) refl e
     sent false h = absurd (omega arith)
 
     go : (f : Option Record) → waiting_at q x.log ≡ f → (unless (push q) (rows f) (told f)).returned ≡ 0 → (r : Record) × Sendable x q r
-    go none is h = absurd (false≢true (sym (passed (rows none) refl (accepted-passes (push q) (rows none) (told none) h).0).1.0))
-    go (some r) is h =
-        let a = accepted-passes (push q) (rows (some r)) (told (some r)) h in
-        let p = passed (rows (some r)) refl a.0 in
-        let z : (told (some r)).returned ≡ 0 = ap (λ (y : Answer). y.returned) (sym a.1) ∙ h in
+    go None is h = absurd (false≢true (sym (passed (rows None) refl (accepted-passes (push q) (rows None) (told None) h).0).1.0))
+    go (Some r) is h =
+        let a = accepted-passes (push q) (rows (Some r)) (told (Some r)) h in
+        let p = passed (rows (Some r)) refl a.0 in
+        let z : (told (Some r)).returned ≡ 0 = ap (λ (y : Answer). y.returned) (sym a.1) ∙ h in
         (r, record { found = is; fit = sent (applies x.server r.operation) z; free = sym (direct-decides w r) ∙ p.0 })
 
 -- what an fsync answers, by cases: the link carries all, it carries too few, or an operation that it carries does not apply
@@ -106,11 +106,11 @@ sync-damaged p o k x e =
     record { program = ltb-true p 32 (not-false _ (passed (sync_rows p o x.view x.log) refl a.0).0); answer = a.1 }
 
 -- no loss to take is refused
-record-there : (f : Option Record) → of_record true f (λ r. false) ≡ false → (r : Record) × (f ≡ some r)
-record-there none e = absurd (false≢true (sym e))
-record-there (some r) e = (r, refl)
+record-there : (f : Option Record) → of_record true f (λ r. false) ≡ false → (r : Record) × (f ≡ Some r)
+record-there None e = absurd (false≢true (sym e))
+record-there (Some r) e = (r, refl)
 
-take-accepted : (p : ℕ) (own : List ℕ) (x : Model) → (take_of p own x).returned ≡ 0 → (r : Record) × (earliest (is_loss_of p) x.log.slots ≡ some r)
+take-accepted : (p : ℕ) (own : List ℕ) (x : Model) → (take_of p own x).returned ≡ 0 → (r : Record) × (earliest (is_loss_of p) x.log.slots ≡ Some r)
 unfolding take_of
 take-accepted p own x e =
     let rows = bad_program p ∷ row Returned.none (no_loss p x) ∷ row Returned.short_buffer (ltb (length own) 1040) ∷ [] in
@@ -193,7 +193,7 @@ module _ (g : Geometry) where
   issued-possible p x os is e i = subst (λ (l : List Operation). AllPossible g x (issuing p l)) (sym e) (issuing-possible g p os x i)
 
   -- either remove, of what it found
-  remove-possible : (p d : ℕ) (n : List ℕ) (x : Model) → (o : ℕ) × (search x.view d n ≡ some o) × Issuing g x p (Operation.remove o d n ∷ [])
+  remove-possible : (p d : ℕ) (n : List ℕ) (x : Model) → (o : ℕ) × (search x.view d n ≡ Some o) × Issuing g x p (Operation.remove o d n ∷ [])
       → AllPossible g x (issuing p (removes x.view d n))
   remove-possible p d n x a = issued-possible p x _ _ (ap (λ (f : Option ℕ). on_found f (λ o. Operation.remove o d n)) a.1) a.2
 

@@ -1,16 +1,16 @@
 -- What acceptance means: an accepted change applies to the view that it met, and its record can be written.
 use Prim.Native.Nat.{ℕ, zero, suc, ◌+◌, ◌*◌, ◌-◌, ◌%◌, ◌≤◌, ◌<◌, min}
 use Rattle.std.proofs.Common.{arith, sym, ap, ◌∙◌, subst, length-take, length-drop}
-use Rattle.std.specs.Prelude.{◌≡◌, Bool, false, not, ◌&&◌, ◌||◌, cond, take, drop, leb, eqb}
+use Rattle.std.specs.Prelude.{◌≡◌, Bool, false, not, ◌&&◌, ◌||◌, cond, take, drop, leb, eqb, Result, Ok, Err}
 use Rattle.std.proofs.Math.Path.{refl}
 use mathlib.Core.List.{List, [], ◌∷◌, ◌++◌}
 use Rattle.std.proofs.Math.Bool.{true, and-eq-true_iff}
-use Rattle.std.proofs.Math.Option.{Option, none, some}
+use Rattle.std.specs.Prelude.{Option, None, Some}
 use Rattle.std.proofs.Math.ListN.{length}
 use Rattle.std.proofs.Math.Dec.{ltb}
 use borrow.Author.Tests.{leb-true, ltb-true, ltb-false, eqb-false, eq-eqb, le-leb, lt-ltb, not-true, not-false}
-use Rattle.names.specs.declared.NameText.{NameText}
-use Rattle.names.specs.declared.NameText.TheVariants.{Fine, Bad, Long}
+use Rattle.names.specs.declared.NameError.{NameError}
+use Rattle.names.specs.declared.NameError.TheVariants.{Bad, Long}
 use Rattle.names.specs.Name.{valid_name, name_text_of}
 use Rattle.names.proofs.Laws.Name.{fine-valid}
 use Rattle.record.specs.Operation.{Operation}
@@ -49,10 +49,10 @@ blocks-few g h =
 text-fine : (s : List ℕ) → is_bad (name_text_of s) ≡ false → is_long (name_text_of s) ≡ false → valid_name s ≡ true
 text-fine s a b = go (name_text_of s) refl a b
   where
-    go : (t : NameText) → name_text_of s ≡ t → is_bad t ≡ false → is_long t ≡ false → valid_name s ≡ true
-    go Fine e h k = fine-valid s e
-    go Bad e h k = let z : ◌≡◌ {A = ℕ} 0 1 = cc in absurd (omega arith)
-    go Long e h k = let z : ◌≡◌ {A = ℕ} 0 1 = cc in absurd (omega arith)
+    go : (t : Result (Unit {0}) NameError) → name_text_of s ≡ t → is_bad t ≡ false → is_long t ≡ false → valid_name s ≡ true
+    go (Ok x) e h k = fine-valid s e
+    go (Err Bad) e h k = let z : ◌≡◌ {A = ℕ} 0 1 = cc in absurd (omega arith)
+    go (Err Long) e h k = let z : ◌≡◌ {A = ℕ} 0 1 = cc in absurd (omega arith)
 
 inside : (v : Volume) (o : ℕ) → outside v o ≡ false → o < length v
 inside v o h = ltb-true o (length v) (not-false _ h)
@@ -61,15 +61,15 @@ used : (v : Volume) (o : ℕ) → is_free v o ≡ false → is_used (entry_at v 
 used v o h = not-false _ h
 
 -- a search that is not absent found something
-found-one : (o : Option ℕ) → is_absent o ≡ false → (i : ℕ) × (o ≡ some i)
-found-one none h = let z : ◌≡◌ {A = ℕ} 0 1 = cc in absurd (omega arith)
-found-one (some i) h = (i, refl)
+found-one : (o : Option ℕ) → is_absent o ≡ false → (i : ℕ) × (o ≡ Some i)
+found-one None h = let z : ◌≡◌ {A = ℕ} 0 1 = cc in absurd (omega arith)
+found-one (Some i) h = (i, refl)
 
-at-found : (i : ℕ) → is_at i (some i) ≡ true
+at-found : (i : ℕ) → is_at i (Some i) ≡ true
 at-found i = eq-eqb i i refl
 
 -- what a search found is a used entry other than the root
-search-inside : (v : Volume) (d : ℕ) (n : List ℕ) (i : ℕ) → search v d n ≡ some i → (1 ≤ i) × (i < length v)
+search-inside : (v : Volume) (d : ℕ) (n : List ℕ) (i : ℕ) → search v d n ≡ Some i → (1 ≤ i) × (i < length v)
 unfolding search
 search-inside v d n i e =
     let l = lowest-some (length v) (is_named v d n) i e in
@@ -96,7 +96,7 @@ module _ (g : Geometry) (x : Model) (s : Sound g x) where
   below : (o : ℕ) → outside x.view o ≡ false → o < g.objects
   below o h = subst (λ (k : ℕ). o < k) sized (inside x.view o h)
 
-  found_below : (d : ℕ) (n : List ℕ) (i : ℕ) → search x.view d n ≡ some i → i < g.objects
+  found_below : (d : ℕ) (n : List ℕ) (i : ℕ) → search x.view d n ≡ Some i → i < g.objects
   found_below d n i e = subst (λ (k : ℕ). i < k) sized (search-inside x.view d n i e).1
 
   -- a file is not the root
@@ -145,14 +145,14 @@ module _ (g : Geometry) (x : Model) (s : Sound g x) where
       record { program = f.0; fit = (f.2, make-recordable g.objects g.blocks few o d n f.1, tt); room = f.3; number = f.4 }
 
   -- what was found and has no children may be removed
-  removed-fit : (d : ℕ) (n : List ℕ) (o : ℕ) → is_directory (entry_at x.view d) ≡ true → search x.view d n ≡ some o → has_children x.view o ≡ false
+  removed-fit : (d : ℕ) (n : List ℕ) (o : ℕ) → is_directory (entry_at x.view d) ≡ true → search x.view d n ≡ Some o → has_children x.view o ≡ false
       → applies x.view (Operation.remove o d n) ≡ true
   unfolding applies
   removed-fit d n o dir is kids = rw (dir, is, at-found o, kids)
 
   -- what an accepted remove of either kind found
   pub remove-accepted : (takes : Entry → Bool) (p d : ℕ) (n : List ℕ) (c : Call) → issues (told_of x) c ≡ removes x.view d n → (changed g c p (remove_rows takes x.view d n) x).returned ≡ 0
-      → (o : ℕ) × (search x.view d n ≡ some o) × Issuing g x p (Operation.remove o d n ∷ [])
+      → (o : ℕ) × (search x.view d n ≡ Some o) × Issuing g x p (Operation.remove o d n ∷ [])
   remove-accepted takes p d n c issued e =
       let v = x.view in
       let a = change-passed g c p (remove_rows takes x.view d n) x refl e in
@@ -302,13 +302,13 @@ module _ (g : Geometry) (x : Model) (s : Sound g x) where
       → (f : Option ℕ) → search x.view e k ≡ f
       → of_found (displaced o f) (λ i. not (eqb (kind_number (entry_at x.view i)) (kind_number (entry_at x.view o)))) ≡ false → of_found (displaced o f) (has_children x.view) ≡ false
       → (yields x.view o e (displaced o f) k ≡ true) × Recordable g.objects g.blocks (Operation.rename o d e (displaced o f) n k)
-  displaced-fit o d e n k fields he hk none is kind kids =
+  displaced-fit o d e n k fields he hk None is kind kids =
       (rw is, rename-recordable g.objects g.blocks few o d e n k fields he hk)
-  displaced-fit o d e n k fields he hk (some i) is kind kids = go (eqb i o) refl kind kids
+  displaced-fit o d e n k fields he hk (Some i) is kind kids = go (eqb i o) refl kind kids
     where
       go : (b : Bool) → eqb i o ≡ b
-          → of_found (cond b none (some i)) (λ i. not (eqb (kind_number (entry_at x.view i)) (kind_number (entry_at x.view o)))) ≡ false → of_found (cond b none (some i)) (has_children x.view) ≡ false
-          → (yields x.view o e (cond b none (some i)) k ≡ true) × Recordable g.objects g.blocks (Operation.rename o d e (cond b none (some i)) n k)
+          → of_found (cond b None (Some i)) (λ i. not (eqb (kind_number (entry_at x.view i)) (kind_number (entry_at x.view o)))) ≡ false → of_found (cond b None (Some i)) (has_children x.view) ≡ false
+          → (yields x.view o e (cond b None (Some i)) k ≡ true) × Recordable g.objects g.blocks (Operation.rename o d e (cond b None (Some i)) n k)
       go true t a c = (rw (is, t), rename-recordable g.objects g.blocks few o d e n k fields he hk)
       go false t a c =
           let z : i ≡ o → ⊥ = eqb-false i o t in
@@ -323,13 +323,13 @@ module _ (g : Geometry) (x : Model) (s : Sound g x) where
   stays-there false same h = refl
 
   -- what was found, stays in its parent if it is a directory, and displaces what it may, may be renamed
-  renamed-fit : (d e o : ℕ) (n k : List ℕ) (t : Option ℕ) → is_directory (entry_at x.view d) ≡ true → is_directory (entry_at x.view e) ≡ true → search x.view d n ≡ some o
+  renamed-fit : (d e o : ℕ) (n k : List ℕ) (t : Option ℕ) → is_directory (entry_at x.view d) ≡ true → is_directory (entry_at x.view e) ≡ true → search x.view d n ≡ Some o
       → (is_directory (entry_at x.view o) && not (eqb d e)) ≡ false → yields x.view o e t k ≡ true → applies x.view (Operation.rename o d e t n k) ≡ true
   unfolding applies
   renamed-fit d e o n k t dir dir₂ is stay y = rw (dir, dir₂, is, at-found o, stays-there (is_directory (entry_at x.view o)) (eqb d e) stay, y)
 
   pub rename-accepted : (i : Issuer) (d : ℕ) (n : List ℕ) (e : ℕ) (k : List ℕ) → (changed g (rename i d n e k) i.program (rename_rows x.view d n e k) x).returned ≡ 0
-      → (o : ℕ) × (search x.view d n ≡ some o) × Issuing g x i.program (Operation.rename o d e (displaced o (search x.view e k)) n k ∷ [])
+      → (o : ℕ) × (search x.view d n ≡ Some o) × Issuing g x i.program (Operation.rename o d e (displaced o (search x.view e k)) n k ∷ [])
   rename-accepted i d n e k acc =
       let v = x.view in
       let a = change-passed g (rename i d n e k) i.program (rename_rows x.view d n e k) x refl acc in

@@ -1,7 +1,7 @@
 -- Every effect that may take place leaves the two volumes and the log well formed.
 use Rattle.std.specs.Prelude.{ℕ, ◌≡◌, List, [], ◌∷◌, ◌++◌, true}
 use Rattle.std.proofs.Common.{sym, ap, subst}
-use Rattle.std.proofs.Math.Option.{Option, some}
+use Rattle.std.specs.Prelude.{Option, Some}
 use Rattle.record.specs.Operation.{Operation, Record, record_of}
 use Rattle.volume_apply.proofs.Laws.Apply.{apply-good}
 use Rattle.log_rules.proofs.Laws.Slot.{formed-inv}
@@ -15,7 +15,7 @@ use Rattle.session.proofs.Laws.Possible.{Sound, Issuable, Sendable, Possible, Al
 use Rattle.session.proofs.Laws.Agree.{effect-agrees}
 
 -- a send of the operation that waits under a number
-pub send-is : (q : ℕ) (x : Model) (r : Record) → Change.waiting_at q x.log ≡ some r → perform (send q) x ≡ sent_found (some r) x
+pub send-is : (q : ℕ) (x : Model) (r : Record) → Change.waiting_at q x.log ≡ Some r → perform (send q) x ≡ sent_found (Some r) x
 unfolding perform
 send-is q x r e = ap (λ (f : Option Record). sent_found f x) e
 

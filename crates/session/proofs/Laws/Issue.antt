@@ -1,7 +1,7 @@
 -- When the record of an operation is valid and fits n and b, by kind.
 use Rattle.std.specs.Prelude.{ℕ, ◌+◌, ◌*◌, ◌%◌, ◌≤◌, ◌<◌, ◌≡◌, List, [], ◌∷◌, true, ◌&&◌, leb}
 use Rattle.std.proofs.Common.{arith}
-use Rattle.std.proofs.Math.Option.{none, some}
+use Rattle.std.specs.Prelude.{None, Some}
 use Rattle.std.proofs.Math.ListN.{length}
 use Rattle.std.proofs.Math.Dec.{leb-zero}
 use borrow.Author.Tests.{le-leb, lt-ltb, ne_eqb}
@@ -51,7 +51,7 @@ module _ (n b : ℕ) (small : n ≤ 256) where
   remove-recordable o d name f = record { good = entry-parts o d name f; within = λ q p. entry-fits o d f.object f.parent }
 
   -- kind 4, with nothing displaced and with a displaced object
-  pub rename-recordable : (o d e : ℕ) (name second : List ℕ) → EntryFields n o d name → e < n → valid_name second ≡ true → Recordable n b (rename o d e none name second)
+  pub rename-recordable : (o d e : ℕ) (name second : List ℕ) → EntryFields n o d name → e < n → valid_name second ≡ true → Recordable n b (rename o d e None name second)
   unfolding fits operands valid_parts valid_objects valid_names valid_range tied differing in_block all_below
   rename-recordable o d e name second f h k =
       record {
@@ -60,7 +60,7 @@ module _ (n b : ℕ) (small : n ≤ 256) where
       }
 
   pub replace-recordable : (o d e t : ℕ) (name second : List ℕ) → EntryFields n o d name → e < n → valid_name second ≡ true → 1 ≤ t → t < n → (o ≡ t → ⊥)
-      → Recordable n b (rename o d e (some t) name second)
+      → Recordable n b (rename o d e (Some t) name second)
   unfolding fits operands valid_parts valid_objects valid_names valid_range tied differing in_block all_below
   replace-recordable o d e t name second f h k low below other =
       record {

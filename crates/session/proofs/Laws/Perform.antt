@@ -1,7 +1,7 @@
 -- What sends one after the other leave, in the log's own terms.
 use Rattle.std.specs.Prelude.{ℕ, ◌≡◌, refl, true}
 use Rattle.std.proofs.Common.{arith, sym, ap, ◌∙◌, subst}
-use Rattle.std.proofs.Math.Option.{Option, some}
+use Rattle.std.specs.Prelude.{Option, Some}
 use mathlib.Core.List.{List, [], ◌∷◌, Memᴰ}
 use Rattle.record.specs.Operation.{Record}
 use Rattle.volume_apply.specs.Apply.{apply}
@@ -24,7 +24,7 @@ sends-performed n b m [] x w rise all = refl
 sends-performed n b m (r ∷ rs) x w rise all =
     let l = x.log in
     let q = r.sequence in
-    let e : waiting_at q l ≡ some r = waiting-at n b m l w (all r (Memᴰ.head refl)) in
+    let e : waiting_at q l ≡ Some r = waiting-at n b m l w (all r (Memᴰ.head refl)) in
     let t = sent-waiting q l r e in
     let y = with_server (apply x.server r.operation) (with_log (Change.sent q l) x) in
     let others : (a : Record) → Memᴰ a rs → Memᴰ a (waiting_of (Change.sent q l).slots) =

@@ -1,6 +1,6 @@
 -- When an effect may take place: what holds of the volumes and the log where a call has it.
 use Rattle.std.specs.Prelude.{ℕ, ◌<◌, ◌≡◌, List, [], ◌∷◌, true, false, length}
-use Rattle.std.proofs.Math.Option.{some}
+use Rattle.std.specs.Prelude.{Some}
 use Rattle.record.specs.Operation.{Operation, Record}
 use Rattle.volume_tree.specs.Form.{well_formed}
 use Rattle.volume_apply.specs.Apply.{applies}
@@ -30,7 +30,7 @@ pub record Issuable (g : Geometry) (x : Model) (p : ℕ) (o : Operation) : Type 
 
 -- an operation that may be sent: it waits under its number, applies to the server, and no waiting one precedes it
 pub record Sendable (x : Model) (q : ℕ) (r : Record) : Type 0 where
-  pub found : waiting_at q x.log ≡ some r
+  pub found : waiting_at q x.log ≡ Some r
   pub fit : applies x.server r.operation ≡ true
   pub free : any (λ a. before a r) (waiting_of x.log.slots) ≡ false
 
@@ -39,7 +39,7 @@ Possible g x (note p ops) = p < 32
 Possible g x (issue p o) = Issuable g x p o
 Possible g x (send q) = (r : Record) × Sendable x q r
 Possible g x discard = Unit {0}
-Possible g x (take p) = (r : Record) × (earliest (is_loss_of p) x.log.slots ≡ some r)
+Possible g x (take p) = (r : Record) × (earliest (is_loss_of p) x.log.slots ≡ Some r)
 Possible g x (renew p) = Unit {0}
 
 -- each of a list where those before it have taken place

@@ -4,7 +4,7 @@ use Rattle.std.specs.Prelude.{ℕ, zero, suc, ◌≤◌, ◌<◌, ◌≡◌, ref
 use Rattle.std.proofs.Common.{arith, sym, ap, ◌∙◌, subst, ⊎_elim}
 use mathlib.Core.List.Memᴰ
 use mathlib.Core.List.{List, [], ◌∷◌, ◌++◌, Memᴰ, Sublistᴰ}
-use Rattle.std.proofs.Math.Option.{some}
+use Rattle.std.specs.Prelude.{Some}
 use Rattle.record.specs.Operation.{Record}
 use Rattle.volume_tree.specs.Volume.{Volume}
 use Rattle.volume_apply.specs.Apply.{applies, apply}
@@ -165,7 +165,7 @@ applying-on r l v h = go (applies v r.operation) refl h
 module _ (g : Geometry) where
   -- what the send of the first of a list that is ready leaves
   pub record Sent (x : Model) (q : Record) (l : List Record) : Type 0 where
-    pub found : waiting_at q.sequence x.log ≡ some q
+    pub found : waiting_at q.sequence x.log ≡ Some q
     pub free : any (λ a. before a q) (waiting_of x.log.slots) ≡ false
     pub server : (perform (send q.sequence) x).server ≡ apply x.server q.operation
     pub ready : Ready (waiting_of (perform (send q.sequence) x).log.slots) l

@@ -4,7 +4,7 @@ use Rattle.std.specs.Prelude.{ℕ, ◌≡◌, List, [], ◌∷◌, ◌++◌, Boo
 use Rattle.std.proofs.Common.{arith, ap, ◌∙◌, subst, eqb-true}
 use Rattle.std.proofs.Math.Path.{refl, sym}
 use Rattle.std.proofs.Math.Bool.{true, false, not, false≢true, and-eq-true_iff}
-use Rattle.std.proofs.Math.Option.{Option, none, some}
+use Rattle.std.specs.Prelude.{Option, None, Some}
 use Rattle.std.proofs.lemmas.Bool.{eqb-false, not-true, not-false}
 use Rattle.returned.specs.Returned
 use Rattle.volume_entry.specs.Entry.{Entry, is_file, is_directory, has_name}
@@ -120,5 +120,5 @@ module _ (g : Geometry) (x : Model) (s : Sound g x) (i : Issuer) (d : ℕ) (n : 
       go (search x.view d n) refl (neither (not (is_directory (entry_at x.view d))) _ k.0).1 k.1
     where
       go : (f : Option ℕ) → search x.view d n ≡ f → of_found f (λ o. not (is_file (entry_at x.view o))) ≡ false → of_found f (has_children x.view) ≡ true → ⊥
-      go none is h k = false≢true k
-      go (some o) is h k = false≢true (sym (file-childless g.objects g.blocks x.view s.view o (not-false _ h)) ∙ k)
+      go None is h k = false≢true k
+      go (Some o) is h k = false≢true (sym (file-childless g.objects g.blocks x.view s.view o (not-false _ h)) ∙ k)

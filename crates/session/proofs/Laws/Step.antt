@@ -1,7 +1,7 @@
 -- What the entries leave in the buffers: bytes of the right form, for every geometry in range and every call.
 use Rattle.std.specs.Prelude.{ℕ, ◌≡◌, refl, [], Bool, true, false, ◌&&◌, cond}
 use Rattle.std.proofs.Common.{arith, sym, ap, subst, eq-eqb}
-use Rattle.std.proofs.Math.Option.{Option, none, some}
+use Rattle.std.specs.Prelude.{Option, None, Some}
 use Rattle.buffer.specs.Decoded.{is_some}
 use Rattle.volume_tree.specs.Volume.{Volume}
 use Rattle.volume_tree.specs.Stored.{decode_volume}
@@ -23,24 +23,24 @@ pub record Holds (g : Geometry) (s : Buffers) (x : Model) : Type 0 where
   pub sound : Sound g x
   pub fit : lengths_fit g s ≡ true
   pub stored : encode_model g x ≡ s
-  pub read : decode_model g s ≡ some x
+  pub read : decode_model g s ≡ Some x
 
 -- each of the three is read for itself, and together they agree
-join-inv : (s v : Option Volume) (l : Option Log) (x : Model) → join_model s v l ≡ some x
-    → (s ≡ some x.server) × (v ≡ some x.view) × (l ≡ some x.log) × (agreeing x ≡ true)
-join-inv none v l x e = let z : ◌≡◌ {A = ℕ} 0 1 = cc in absurd (omega arith)
-join-inv (some s) none l x e = let z : ◌≡◌ {A = ℕ} 0 1 = cc in absurd (omega arith)
-join-inv (some s) (some v) none x e = let z : ◌≡◌ {A = ℕ} 0 1 = cc in absurd (omega arith)
-join-inv (some s) (some v) (some l) x e = go (agreeing all) refl e
+join-inv : (s v : Option Volume) (l : Option Log) (x : Model) → join_model s v l ≡ Some x
+    → (s ≡ Some x.server) × (v ≡ Some x.view) × (l ≡ Some x.log) × (agreeing x ≡ true)
+join-inv None v l x e = let z : ◌≡◌ {A = ℕ} 0 1 = cc in absurd (omega arith)
+join-inv (Some s) None l x e = let z : ◌≡◌ {A = ℕ} 0 1 = cc in absurd (omega arith)
+join-inv (Some s) (Some v) None x e = let z : ◌≡◌ {A = ℕ} 0 1 = cc in absurd (omega arith)
+join-inv (Some s) (Some v) (Some l) x e = go (agreeing all) refl e
   where
     all : Model
     all = record { server = s; view = v; log = l }
 
-    go : (t : Bool) → agreeing all ≡ t → cond t (some all) none ≡ some x
-        → (some s ≡ some x.server) × (some v ≡ some x.view) × (some l ≡ some x.log) × (agreeing x ≡ true)
+    go : (t : Bool) → agreeing all ≡ t → cond t (Some all) None ≡ Some x
+        → (Some s ≡ Some x.server) × (Some v ≡ Some x.view) × (Some l ≡ Some x.log) × (agreeing x ≡ true)
     go true a f =
         let m : all ≡ x = cc in
-        (ap (λ (y : Model). some y.server) m, ap (λ (y : Model). some y.view) m, ap (λ (y : Model). some y.log) m, subst (λ (y : Model). agreeing y ≡ true) m a)
+        (ap (λ (y : Model). Some y.server) m, ap (λ (y : Model). Some y.view) m, ap (λ (y : Model). Some y.log) m, subst (λ (y : Model). agreeing y ≡ true) m a)
     go false a f = let z : ◌≡◌ {A = ℕ} 0 1 = cc in absurd (omega arith)
 
 -- a sound model is stored in buffers of the right lengths, and read from them again
@@ -88,7 +88,7 @@ pub record Steps (g : Geometry) (c : Call) (s : Buffers) (x : Model) : Type 0 wh
 pub step-holds : (g : Geometry) (c : Call) (s : Buffers) (x : Model) → Holds g s x → Steps g c s x
 unfolding step
 step-holds g c s x h =
-    let is : step g c s ≡ on_model g c s (some x) = rw (h.sound.range, h.fit, h.read) in
+    let is : step g c s ≡ on_model g c s (Some x) = rw (h.sound.range, h.fit, h.read) in
     record {
       gives = ap (λ (y : Result). y.gives) is;
       leaves = ap (λ (y : Result). y.leaves) is;
@@ -96,7 +96,7 @@ step-holds g c s x h =
     }
 
 -- an accepted mount leaves buffers that store the volume of the server's bytes twice and an empty log
-pub mount-holds : (g : Geometry) (s : Buffers) → (mount g s).gives.returned ≡ 0 → (v : Volume) × (decode_volume g.objects g.blocks (mount g s).leaves.server ≡ some v) × Holds g (mount g s).leaves (mounted_model v)
+pub mount-holds : (g : Geometry) (s : Buffers) → (mount g s).gives.returned ≡ 0 → (v : Volume) × (decode_volume g.objects g.blocks (mount g s).leaves.server ≡ Some v) × Holds g (mount g s).leaves (mounted_model v)
 unfolding mount
 mount-holds g s e = go (in_range g) (lengths_fit g s) (decode_volume g.objects g.blocks s.server) refl refl refl e
   where
@@ -112,12 +112,12 @@ mount-holds g s e = go (in_range g) (lengths_fit g s) (decode_volume g.objects g
 
     go : (r f : Bool) (d : Option Volume) → in_range g ≡ r → lengths_fit g s ≡ f → decode_volume g.objects g.blocks s.server ≡ d
         → (cond (r && f) (cond (is_some d) after (refusal 2)) (refusal 1)).gives.returned ≡ 0
-        → (v : Volume) × (decode_volume g.objects g.blocks (cond (r && f) (cond (is_some d) after (refusal 2)) (refusal 1)).leaves.server ≡ some v)
+        → (v : Volume) × (decode_volume g.objects g.blocks (cond (r && f) (cond (is_some d) after (refusal 2)) (refusal 1)).leaves.server ≡ Some v)
         × Holds g (cond (r && f) (cond (is_some d) after (refusal 2)) (refusal 1)).leaves (mounted_model v)
-    go true true (some v) hr hf hd k =
+    go true true (Some v) hr hf hd k =
         let d = VolumeLaws.encode-decode g.objects g.blocks s.server v hd in
         let sound : Sound g (mounted_model v) = record { range = hr; server = d.0; view = d.0; log = empty-good g.objects g.blocks g.capacity; agree = mounted-agrees v } in
         (v, hd, subst (λ (y : Buffers). Holds g y (mounted_model v)) (λ i. record { server = d.1 i; view = d.1 i; log = encode_log g.capacity empty_log }) (model-stored g (mounted_model v) sound))
-    go true true none hr hf hd k = let z : ◌≡◌ {A = ℕ} 0 1 = cc in absurd (omega arith)
+    go true true None hr hf hd k = let z : ◌≡◌ {A = ℕ} 0 1 = cc in absurd (omega arith)
     go true false d hr hf hd k = let z : ◌≡◌ {A = ℕ} 0 1 = cc in absurd (omega arith)
     go false f d hr hf hd k = let z : ◌≡◌ {A = ℕ} 0 1 = cc in absurd (omega arith)

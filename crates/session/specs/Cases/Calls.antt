@@ -1,7 +1,7 @@
 -- Document 01, "Cases to prove": C1 to C12 as one table, proved through one statement about the definitions; beside it further
 -- examples, and those of document 02.
 use Rattle.std.specs.Prelude.{ℕ, ◌≡◌, refl, List, [], ◌∷◌, ◌++◌, map, cond, replicate, eqb}
-use Rattle.std.proofs.Math.Option.{Option, none, some}
+use Rattle.std.specs.Prelude.{Option, None, Some}
 use Rattle.names.specs.Name.{permitted_byte, all_permitted, is_dots, good_text, name_text_of, lower_case, same_name}
 use Rattle.paths.specs.Path.{path_text_of, on_first, split, components}
 use Rattle.record.specs.Kind.{kind_of_code}
@@ -37,9 +37,9 @@ mounted g = record { server = formatted g.objects; view = formatted g.objects; l
 -- what some calls leave, if each of them is accepted
 unfoldable pub after : Geometry → List Call → Option Model → Option Model
 after g [] x = x
-after g (c ∷ cs) none = none
-after g (c ∷ cs) (some x) =
-    after g cs (cond (eqb (answer_of g c x).returned 0) (some (leaves_of g c x)) none)
+after g (c ∷ cs) None = None
+after g (c ∷ cs) (Some x) =
+    after g cs (cond (eqb (answer_of g c x).returned 0) (Some (leaves_of g c x)) None)
 
 -- of each call its returned number and its other results
 unfoldable pub answers : Geometry → List Call → Model → List (List ℕ)
@@ -75,19 +75,19 @@ pub data Said : Type 0 where
   nothing : Said
 
 abbrev pub on_model : Option Model → (Model → Said) → Said
-on_model none f = nothing
-on_model (some x) f = f x
+on_model None f = nothing
+on_model (Some x) f = f x
 
 abbrev pub on_record : Option Record → Said
-on_record none = nothing
-on_record (some r) = a_record r
+on_record None = nothing
+on_record (Some r) = a_record r
 
 unfoldable pub answer_to : Asked → Said
-answer_to (answers_to g before calls) = on_model (after g before (some (mounted g))) (λ x. numbers (answers g calls x))
+answer_to (answers_to g before calls) = on_model (after g before (Some (mounted g))) (λ x. numbers (answers g calls x))
 answer_to (answers_from n g before calls) =
-    on_model (after g before (some (mounted g))) (λ x. numbers (answers g calls (with_log (with_next n x.log) x)))
-answer_to (order_after g before) = on_model (after g before (some (mounted g))) (λ x. precede (order (waiting_of x.log.slots)))
-answer_to (left_by g before c) = on_model (after g before (some (mounted g))) (λ x. left (answer_of g c x).buffer)
+    on_model (after g before (Some (mounted g))) (λ x. numbers (answers g calls (with_log (with_next n x.log) x)))
+answer_to (order_after g before) = on_model (after g before (Some (mounted g))) (λ x. precede (order (waiting_of x.log.slots)))
+answer_to (left_by g before c) = on_model (after g before (Some (mounted g))) (λ x. left (answer_of g c x).buffer)
 answer_to (record_of s) = on_record (decode_record s)
 
 pub record Row : Type 0 where
@@ -287,7 +287,7 @@ spelling =
     ∷ C 4 (left_by small (create_file (by 0) 0 Task 1 ∷ rename (by 0) 0 task 0 Task ∷ []) (list_for 0 8)) (left (1 ∷ 0 ∷ 1 ∷ 4 ∷ Task))
     -- "records keep both names as typed", and the lost rename displaced nothing; the server keeps the old spelling
     ∷ C 5 (left_by small spelling_lost (take 0 buffer))
-    (left (encode (record { sequence = 2; program = 0; operation = Operation.rename 1 0 0 none task TASK }) ++ replicate 1016 0))
+    (left (encode (record { sequence = 2; program = 0; operation = Operation.rename 1 0 0 None task TASK }) ++ replicate 1016 0))
     ∷ C 5 (left_by small spelling_lost (list_for 1 8)) (left (1 ∷ 0 ∷ 1 ∷ 4 ∷ Task))
     -- another spelling of another object's name displaces that one: "b" is stored, and B is gone
     ∷ C 6 (left_by small (create_file (by 0) 0 (named 97) 1 ∷ create_file (by 0) 0 (named 66) 2 ∷ rename (by 0) 0 (named 65) 0 (named 98) ∷ []) (list_for 0 5))

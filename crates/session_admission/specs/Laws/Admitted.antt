@@ -4,7 +4,7 @@ use Rattle.std.proofs.Common.{arith, ap, ◌∙◌, subst}
 use Rattle.std.proofs.Math.Path.{sym}
 use mathlib.Core.List.{List}
 use Rattle.std.proofs.Math.Bool.{and-eq-true_iff}
-use Rattle.std.proofs.Math.Option.{Option, none, some}
+use Rattle.std.specs.Prelude.{Option, None, Some}
 use Rattle.std.proofs.Math.Dec.{leb}
 use Rattle.buffer.specs.Decoded.{is_some}
 use Rattle.returned.specs.Returned
@@ -45,17 +45,17 @@ module _ (n b m : ℕ) (s v l : List ℕ) where
       (eqb (length l) (log_bytes m))
 
   -- whether there is something where a test passes is the test
-  there : (x : Model) (t : Bool) → t ≡ is_some {A = Model} (cond t (some x) none)
+  there : (x : Model) (t : Bool) → t ≡ is_some {A = Model} (cond t (Some x) None)
   there x true = refl
   there x false = refl
 
   -- three that hold, where they hold something, what the bytes tell of
-  read-model : (x y : Volume) (z : Log) (a c : Option Volume) (d : Option Log) → ((u : Volume) → a ≡ some u → x ≡ u) → ((u : Volume) → c ≡ some u → y ≡ u) → ((u : Log) → d ≡ some u → z ≡ u)
+  read-model : (x y : Volume) (z : Log) (a c : Option Volume) (d : Option Log) → ((u : Volume) → a ≡ Some u → x ≡ u) → ((u : Volume) → c ≡ Some u → y ≡ u) → ((u : Log) → d ≡ Some u → z ≡ u)
       → is_some a && (is_some c && (is_some d && agreeing (record { server = x; view = y; log = z }))) ≡ is_some (join_model a c d)
-  read-model x y z none c d f g k = refl
-  read-model x y z (some u) none d f g k = refl
-  read-model x y z (some u) (some w) none f g k = refl
-  read-model x y z (some u) (some w) (some q) f g k =
+  read-model x y z None c d f g k = refl
+  read-model x y z (Some u) None d f g k = refl
+  read-model x y z (Some u) (Some w) None f g k = refl
+  read-model x y z (Some u) (Some w) (Some q) f g k =
       (λ i. agreeing (record { server = f u refl i; view = g w refl i; log = k q refl i }))
       ∙ there (record { server = u; view = w; log = q }) (agreeing (record { server = u; view = w; log = q }))
 
@@ -67,11 +67,11 @@ module _ (n b m : ℕ) (s v l : List ℕ) where
       let all = (and-eq-true_iff (lent n b s) (lent n b v && lent_log n b m l)).0 (lengths-lent ∙ h) in
       let two = (and-eq-true_iff (lent n b v) (lent_log n b m l)).0 all.1 in
       let range = ((and-eq-true_iff (in_range (geometry n b m)) (lengths_fit (geometry n b m) (buffers s v l))).0 h).0 in
-      let volume : (t : List ℕ) (u : Volume) → decode_volume n b t ≡ some u → read_volume n b t ≡ u =
+      let volume : (t : List ℕ) (u : Volume) → decode_volume n b t ≡ Some u → read_volume n b t ≡ u =
       λ t u e.
       let d = VolumeLaws.encode-decode n b t u e in
       sym (ap (read_volume n b) d.1) ∙ VolumeLaws.read-good n b u (objects-few (geometry n b m) range) (blocks-few (geometry n b m) range) d.0 in
-      let log : (u : Log) → decode_log n b m l ≡ some u → read_log m l ≡ u =
+      let log : (u : Log) → decode_log n b m l ≡ Some u → read_log m l ≡ u =
       λ u e. let d = StoredLaws.encode-decode n b m l u e in sym (ap (read_log m) d.1) ∙ StoredLaws.read-log n b m u d.0 in
       (rw (all.0, two.0, two.1))
       ∙ read-model (read_volume n b s) (read_volume n b v) (read_log m l) (decode_volume n b s) (decode_volume n b v) (decode_log n b m l) (volume s) (volume v) log
@@ -84,8 +84,8 @@ not-admitted g c s k e n = go (in_range g && lengths_fit g s) (decode_model g s)
     go : (t : Bool) (d : Option Model) → cond t (cond (is_some d) Returned.accepted Returned.damaged) Returned.wrong_buffer ≡ k
         → cond t (on_model g c s d) (turned_down Returned.wrong_buffer c s) ≡ turned_down k c s
     go false d h = ap (λ (j : ℕ). turned_down j c s) h
-    go true none h = ap (λ (j : ℕ). turned_down j c s) h
-    go true (some x) h = absurd (n (sym h))
+    go true None h = ap (λ (j : ℕ). turned_down j c s) h
+    go true (Some x) h = absurd (n (sym h))
 
 -- A call that is not refused so has three buffers of the right form, which store what their bytes tell of.
 pub admitted : (n b m : ℕ) (s v l : List ℕ) → admission (geometry n b m) (buffers s v l) ≡ 0 → Admitted n b m s v l
@@ -112,7 +112,7 @@ admitted n b m s v l e = go (in_range g && lengths_fit g t) (is_some (decode_mod
         let fl = FormLaws.formed-logged n b m l three.0 in
         let ds = LentLaws.formed-decoded n b s fs in
         let dv = LentLaws.formed-decoded n b v fv in
-        let dl : decode_log n b m l ≡ some (read_log m l) = ap (decode_log n b m) (sym fl.stored) ∙ StoredLaws.decode-encode n b m (read_log m l) fl.form in
+        let dl : decode_log n b m l ≡ Some (read_log m l) = ap (decode_log n b m) (sym fl.stored) ∙ StoredLaws.decode-encode n b m (read_log m l) fl.form in
         record {
           server = fs;
           view = fv;

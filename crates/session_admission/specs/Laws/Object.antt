@@ -1,11 +1,12 @@
 -- What an object's number names decides the rows that ask of it. Assumes nothing.
-use Rattle.std.specs.Prelude.{ℕ, ◌≡◌, List, [], ◌∷◌, ◌++◌, Bool, true, false, not, cond, length, ltb}
+use Rattle.volume_questions.specs.declared.object.ObjectError.TheVariants.{BadNumber, NoObject}
+use Rattle.std.specs.Prelude.{ℕ, ◌≡◌, List, [], ◌∷◌, ◌++◌, Bool, true, false, not, cond, length, ltb, Ok, Err}
 use Rattle.std.proofs.Math.Path.{refl}
 use Rattle.returned.specs.Returned
 use Rattle.volume_entry.specs.Entry.{Entry, is_used, is_file, is_directory}
 use Rattle.volume_entry.specs.Laws.Entry.{file-no-directory, other-directory}
 use Rattle.volume_tree.specs.Volume.{Volume, entry_at}
-use Rattle.volume_questions.specs.declared.object.Object.TheVariants.{File, Directory, BadNumber, Free}
+use Rattle.volume_questions.specs.declared.object.ObjectKind.TheVariants.{File, Directory}
 use Rattle.volume_questions.specs.Answer.{object_answer}
 use Rattle.session.specs.Refusal.{Row, row}
 use Rattle.session.specs.Model.{object_rows}
@@ -24,7 +25,7 @@ module _ (v : Volume) (o : ℕ) where
       e : Entry
       e = entry_at v o
 
-      go : (t u k : Bool) → is_used e ≡ u → is_file e ≡ k → named_number f d (cond t (cond u (cond k File Directory) Free) BadNumber)
+      go : (t u k : Bool) → is_used e ≡ u → is_file e ≡ k → named_number f d (cond t (cond u (cond k (Ok File) (Ok Directory)) (Err NoObject)) (Err BadNumber))
           ≡ first_number (row Returned.bad_number (not t) ∷ row Returned.no_object (not u) ∷ rest e)
       go false u k eu ek = refl
       go true false k eu ek = refl

@@ -1,13 +1,14 @@
 -- A change's table, decided by the number that its own rows give: refused, or accepted. Assumes nothing.
-use Rattle.std.specs.Prelude.{ℕ, ◌≡◌, List, [], ◌∷◌, ◌++◌, Bool, true, false, not, cond, ltb, eqb}
+use Rattle.std.specs.Prelude.{ℕ, ◌≡◌, List, [], ◌∷◌, ◌++◌, Bool, true, false, not, cond, ltb, eqb, Result, Err}
 use Rattle.std.proofs.Common.{arith, ◌∙◌, eqb-true, eq-eqb, ne_eqb}
 use Rattle.std.proofs.Math.Path.{refl, sym, ap}
 use Rattle.std.proofs.Math.Bool.{and-eq-true_iff}
 use Rattle.std.proofs.lemmas.Bool.{eqb-false}
 use Rattle.returned.specs.Returned
 use Rattle.returned.specs.Returned.{rank_of}
-use Rattle.returned.specs.declared.Value.{Value}
-use Rattle.returned.specs.Shapes.{value}
+use Rattle.returned.specs.declared.Refusal.{Refusal}
+use Rattle.returned.specs.Refusal.{refusal_number, number_of}
+use Rattle.returned.specs.Laws.Refusal.{refused-some}
 use Rattle.volume_tree.specs.Stored.{read_volume}
 use Rattle.log_rules.specs.Programs.{holds}
 use Rattle.log_rules.specs.Slot.{Log}
@@ -81,10 +82,10 @@ own-passes g l p own count h = go (not (ltb p 32)) (holds l.head.marks p) (eqb o
     go false false false q e = e
 
 -- A change that is refused for what it is lent.
-pub lent-refuses : (g : Geometry) (i : Issuer) (c : Change) (s : Buffers) (k : ℕ) → k ≡ admission g s → (k ≡ 0 → ⊥) → (r : Value) → r ≡ value k 0
-    → given r.returned (r.value ∷ []) [] s ≡ step g (change i c) s
-lent-refuses g i c s k e z r q =
-    (λ j. record { gives = answer (q j).returned ((q j).value ∷ []) []; leaves = s }) ∙ sym (not-admitted g (change i c) s k (sym e) z)
+pub lent-refuses : (g : Geometry) (i : Issuer) (c : Change) (s : Buffers) (q : Result (Unit {0}) Refusal) → number_of q ≡ admission g s → (f : Refusal) → q ≡ Err f
+    → given (refusal_number f) (0 ∷ []) [] s ≡ step g (change i c) s
+lent-refuses g i c s q e f w =
+    (λ j. record { gives = answer (number_of (sym w j)) (0 ∷ []) []; leaves = s }) ∙ sym (not-admitted g (change i c) s (number_of q) (sym e) (refused-some w))
 
 module _ {n b m : ℕ} {i : Issuer} {s v l : List ℕ} {c : Change} {own count : ℕ} (ch : ChangeBy n b m i s v l c own count) where
   -- its own rows
@@ -103,13 +104,13 @@ module _ {n b m : ℕ} {i : Issuer} {s v l : List ℕ} {c : Change} {own count :
       (λ z. ap (λ (k : ℕ). first_number (room_for g (read_log m l) k)) (sym (ch.many z))))
 
   -- Refused: nothing changes.
-  pub change-refuses : (k : ℕ) → k ≡ change_number (geometry n b m) (read_log m l) i.program own count → (k ≡ 0 → ⊥) → (r : Value) → r ≡ value k 0
-      → given r.returned (r.value ∷ []) [] (buffers s v l) ≡ step (geometry n b m) (change i c) (buffers s v l)
+  pub change-refuses : {A : Type 0} (q : Result A Refusal) → number_of q ≡ change_number (geometry n b m) (read_log m l) i.program own count → (f : Refusal) → q ≡ Err f
+      → given (refusal_number f) (0 ∷ []) [] (buffers s v l) ≡ step (geometry n b m) (change i c) (buffers s v l)
   unfolding answer_of
-  change-refuses k e z r q =
-      (λ j. record { gives = answer (q j).returned ((q j).value ∷ []) []; leaves = buffers s v l })
+  change-refuses q e f w =
+      (λ j. record { gives = answer (number_of (sym w j)) (0 ∷ []) []; leaves = buffers s v l })
       ∙ sym (refused n b m s v l ch.held (change i c) (program_rows (read_log m l) i.program ++ (own-rows ++ room_rows (geometry n b m) (change i c) (model_in n b m s v l)))
-      (answer 0 ((read_log m l).head.next ∷ []) []) refl ch.rise k (e ∙ table-number) z refl)
+      (answer 0 ((read_log m l).head.next ∷ []) []) refl ch.rise (number_of q) (e ∙ table-number) (refused-some w) refl)
 
   -- Accepted: the answer is the next sequence number.
   pub change-passes : (k : ℕ) → k ≡ change_number (geometry n b m) (read_log m l) i.program own count → k ≡ 0

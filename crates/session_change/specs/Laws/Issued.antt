@@ -3,8 +3,6 @@
 use Rattle.std.specs.Prelude.{ℕ, ◌≡◌, List, [], ◌∷◌, ◌++◌, true}
 use Rattle.std.proofs.Common.{arith, ap, ◌∙◌, subst}
 use Rattle.std.proofs.Math.Path.{refl, sym}
-use Rattle.returned.specs.declared.Value.{Value}
-use Rattle.returned.specs.Shapes.{value}
 use Rattle.record.specs.Operation.{Operation, Record, record_of, operands}
 use Rattle.volume_tree.specs.Stored.{read_volume}
 use Rattle.log_rules.specs.Stored.{read_log}
@@ -84,17 +82,16 @@ performed p (o ∷ os) x = performed p os (perform (issue p o) (perform (note p 
 -- The accepted case of every change: the buffers store what issuing its operations leaves.
 pub changed-outcome : {n b m : ℕ} {i : Issuer} {s v l : List ℕ} {c : Change} {own count : ℕ} (ch : ChangeBy n b m i s v l c own count) (k : ℕ)
     → k ≡ change_number (geometry n b m) (read_log m l) i.program own count → k ≡ 0 → (os : List Operation) → operations_of (told_of (model_in n b m s v l)) c ≡ os
-    → (x : ℕ) (log view : List ℕ) → AllIssued b m x log view (read_volume n b v) (read_log m l) i.program os → (r : Value) → r ≡ value 0 x
-    → given r.returned (r.value ∷ []) [] (buffers s view log) ≡ step (geometry n b m) (change i c) (buffers s v l)
+    → (x : ℕ) (log view : List ℕ) → AllIssued b m x log view (read_volume n b v) (read_log m l) i.program os
+    → given 0 (x ∷ []) [] (buffers s view log) ≡ step (geometry n b m) (change i c) (buffers s v l)
 unfolding answer_of
-changed-outcome {n} {b} {m} {i} {s} {v} {l} {c} ch k e z os all x log view u r w =
+changed-outcome {n} {b} {m} {i} {s} {v} {l} {c} ch k e z os all x log view u =
     let g = geometry n b m in
     let y = model_in n b m s v l in
     let a = answer 0 ((read_log m l).head.next ∷ []) [] in
-    let told = w ∙ ap (value 0) u.gives in
     let left : encode_model g (perform_all (issuing i.program os) y) ≡ buffers s view log =
     ap (encode_model g) (performed i.program os y) ∙ (λ j. record { server = ch.held.server.stored j; view = sym u.view j; log = sym u.log j }) in
-    (λ j. record { gives = answer (told j).returned ((told j).value ∷ []) []; leaves = sym left j })
+    (λ j. record { gives = answer 0 (u.gives j ∷ []) []; leaves = sym left j })
     ∙ sym
     (accepted n b m s v l ch.held (change i c) (program_rows (read_log m l) i.program ++ (change_rows g (read_volume n b v) c ++ room_rows g (change i c) y)) a refl ch.rise (change-passes ch k e z) refl
     ∙ ap (λ (f : List Effect). record { gives = a; leaves = encode_model g (perform_all f y) }) (ap (issuing i.program) all))
@@ -103,7 +100,7 @@ changed-outcome {n} {b} {m} {i} {s} {v} {l} {c} ch k e z os all x log view u r w
 pub issued-outcome : {n b m : ℕ} {i : Issuer} {s v l : List ℕ} {c : Change} {own count : ℕ} (ch : ChangeBy n b m i s v l c own count) (k : ℕ)
     → k ≡ change_number (geometry n b m) (read_log m l) i.program own count → k ≡ 0
     → (o : Operation) → operations_of (told_of (model_in n b m s v l)) c ≡ o ∷ [] → (d : Record) → d ≡ record_of (read_log m l).head.next i.program o
-    → (x : ℕ) (log view : List ℕ) → Issued n b m x log view (read_volume n b v) (read_log m l) d → (r : Value) → r ≡ value 0 x
-    → given r.returned (r.value ∷ []) [] (buffers s view log) ≡ step (geometry n b m) (change i c) (buffers s v l)
-issued-outcome {n} {b} {m} {i} {s} {v} {l} ch k e z o one d q x log view u r w =
-    changed-outcome ch k e z (o ∷ []) one x log view (one-issued (subst (Issued n b m x log view (read_volume n b v) (read_log m l)) q u)) r w
+    → (x : ℕ) (log view : List ℕ) → Issued n b m x log view (read_volume n b v) (read_log m l) d
+    → given 0 (x ∷ []) [] (buffers s view log) ≡ step (geometry n b m) (change i c) (buffers s v l)
+issued-outcome {n} {b} {m} {i} {s} {v} {l} ch k e z o one d q x log view u =
+    changed-outcome ch k e z (o ∷ []) one x log view (one-issued (subst (Issued n b m x log view (read_volume n b v) (read_log m l)) q u))

@@ -1,5 +1,5 @@
 -- `session_forder::any_free` meets its contract. The invariant: the objects from i on decide the answer.
--- The measure is what is left of the count. Assumes nothing.
+-- Assumes nothing.
 use native.Mathlib.Omega.{arith}
 use mathlib.Core.Path.{refl, sym, ap, ◌∙◌}
 use Rattle.record.specs.Fields.{objects_of}
@@ -10,7 +10,7 @@ use Rattle.session_forder.specs.Laws.List.{any_here, any-on, any-end}
 use Rattle.session_forder.proofs.any_free.Goals as goal
 
 pub loop-i-init : goal.loop-i-init
-loop-i-init c = (omega arith, sym (count-objects c.args.list.now), refl)
+loop-i-init c = refl
 
 pub object_of-requires : goal.object_of-requires
 object_of-requires c = omega (arith, count-objects c.args.list.now)
@@ -22,19 +22,17 @@ pub returns-then-is_free : goal.returns-then-is_free
 returns-then-is_free c =
     let l = objects_of c.args.list.now in
     let v = read_volume c.args.n c.args.b c.args.view.now in
-    let o = c.object_of in
-    sym (c.loop-i.invariant.2 ∙ any_here (is_free v) l c.loop-i.i (omega arith) (ap (is_free v) (sym o.ensures.0) ∙ sym c.is_free.ensures ∙ c.if-is_free.true))
+    let n = count-objects c.args.list.now in
+    sym (c.loop-i.invariant ∙ any_here (is_free v) l c.loop-i.i (omega arith) (ap (is_free v) (sym c.object_of.ensures.0) ∙ sym c.is_free.ensures ∙ c.if-is_free.true))
 
 pub loop-i-preserved : goal.loop-i-preserved
 loop-i-preserved c =
     let l = objects_of c.args.list.now in
     let v = read_volume c.args.n c.args.b c.args.view.now in
-    let o = c.object_of in (
-      omega arith,
-      c.loop-i.invariant.1,
-      c.loop-i.invariant.2 ∙ any-on (is_free v) l c.loop-i.i (omega arith) (ap (is_free v) (sym o.ensures.0) ∙ sym c.is_free.ensures ∙ c.if-is_free.false),
-    )
+    let n = count-objects c.args.list.now in
+    c.loop-i.invariant ∙ any-on (is_free v) l c.loop-i.i (omega arith) (ap (is_free v) (sym c.object_of.ensures.0) ∙ sym c.is_free.ensures ∙ c.if-is_free.false)
 
 pub returns : goal.returns
 returns c =
-    sym (c.loop-i.invariant.2 ∙ any-end (is_free (read_volume c.args.n c.args.b c.args.view.now)) (objects_of c.args.list.now) c.loop-i.i (omega arith))
+    let n = count-objects c.args.list.now in
+    sym (c.loop-i.invariant ∙ any-end (is_free (read_volume c.args.n c.args.b c.args.view.now)) (objects_of c.args.list.now) c.loop-i.i (omega arith))

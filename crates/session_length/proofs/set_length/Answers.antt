@@ -1,5 +1,6 @@
 -- `session_length::set_length` meets its contract: refused for what it is lent, refused by its table, or issued. Assumes nothing.
 use native.Mathlib.Omega.{arith}
+use Rattle.returned.specs.Laws.Refusal.{not-refused}
 use mathlib.Core.Path.{refl, sym, ◌∙◌}
 use Rattle.record.specs.Operation.{Operation}
 use Rattle.record_writer.specs.Code.Writer.{length_record}
@@ -12,40 +13,39 @@ use Rattle.session_change.specs.Laws.Issued.{issuing-room, issuing-able, issued-
 use Rattle.session_length.specs.Laws.Call.{length-change, length-issuing}
 use Rattle.session_length.proofs.set_length.Goals as goal
 
-pub returns-then-wrong-ne-ACCEPTED : goal.returns-then-wrong-ne-ACCEPTED
-returns-then-wrong-ne-ACCEPTED c =
+pub returns-in-Err : goal.returns-in-Err
+returns-in-Err c =
     let a = c.args in
-    lent-refuses (geometry a.n a.b a.m) (issuer a.program) (Class.set_length a.object a.length) (buffers a.server.now a.view.now a.log.now) c.admit-wrong.result
-    c.admit-wrong.ensures c.if-wrong-ne-ACCEPTED.true c.refused.result c.refused.ensures
+    lent-refuses (geometry a.n a.b a.m) (issuer a.program) (Class.set_length a.object a.length) (buffers a.server.now a.view.now a.log.now) _ c.admit.ensures _ c.in-Err.is
 
 pub length_refusal-own-requires : goal.length_refusal-own-requires
 length_refusal-own-requires c =
     let a = c.args in
-    (admitted a.n a.b a.m a.server.now a.view.now a.log.now (sym c.admit-wrong.ensures ∙ c.if-wrong-ne-ACCEPTED.false)).view.lent
+    (admitted a.n a.b a.m a.server.now a.view.now a.log.now (sym c.admit.ensures ∙ not-refused _ c.in_default.not-Err)).view.lent
 
-pub change_refusal-refused-requires : goal.change_refusal-refused-requires
-change_refusal-refused-requires c =
+pub accept_change-requires : goal.accept_change-requires
+accept_change-requires c =
     let a = c.args in
-    let h = admitted a.n a.b a.m a.server.now a.view.now a.log.now (sym c.admit-wrong.ensures ∙ c.if-wrong-ne-ACCEPTED.false) in
+    let h = admitted a.n a.b a.m a.server.now a.view.now a.log.now (sym c.admit.ensures ∙ not-refused _ c.in_default.not-Err) in
     record { logged = h.log; count_bound = omega arith }
 
-pub returns-then-refused-ne-ACCEPTED : goal.returns-then-refused-ne-ACCEPTED
-returns-then-refused-ne-ACCEPTED c =
+pub returns-in-Err-accept_change : goal.returns-in-Err-accept_change
+returns-in-Err-accept_change c =
     let a = c.args in
-    let h = admitted a.n a.b a.m a.server.now a.view.now a.log.now (sym c.admit-wrong.ensures ∙ c.if-wrong-ne-ACCEPTED.false) in
+    let h = admitted a.n a.b a.m a.server.now a.view.now a.log.now (sym c.admit.ensures ∙ not-refused _ c.in_default.not-Err) in
     let w = c.length_refusal-own in
-    let ch = length-change h (issuer a.program) a.object a.length w.result w.ensures in
-    let r = c.change_refusal-refused in
-    change-refuses ch r.result r.ensures c.if-refused-ne-ACCEPTED.true c.refused-then-refused-ne-ACCEPTED.result c.refused-then-refused-ne-ACCEPTED.ensures
+    let ch = length-change h (issuer a.program) a.object a.length _ w.ensures in
+    let r = c.accept_change in
+    change-refuses ch _ r.ensures.number _ c.in-Err-accept_change.is
 
 pub issue_length-number-requires : goal.issue_length-number-requires
 unfolding length_record
 issue_length-number-requires c =
     let a = c.args in
-    let h = admitted a.n a.b a.m a.server.now a.view.now a.log.now (sym c.admit-wrong.ensures ∙ c.if-wrong-ne-ACCEPTED.false) in
+    let h = admitted a.n a.b a.m a.server.now a.view.now a.log.now (sym c.admit.ensures ∙ not-refused _ c.in_default.not-Err) in
     let w = c.length_refusal-own in
-    let r = c.change_refusal-refused in
-    let i = length-issuing h (issuer a.program) a.object a.length w.result w.ensures r.result r.ensures c.if-refused-ne-ACCEPTED.false in
+    let r = c.accept_change in
+    let i = length-issuing h (issuer a.program) a.object a.length _ w.ensures _ r.ensures.number (not-refused _ c.in_default-accept_change.not-Err) in
     record {
       logged = h.log;
       formed = h.view;
@@ -57,10 +57,10 @@ pub returns : goal.returns
 unfolding length_record
 returns c =
     let a = c.args in
-    let h = admitted a.n a.b a.m a.server.now a.view.now a.log.now (sym c.admit-wrong.ensures ∙ c.if-wrong-ne-ACCEPTED.false) in
+    let h = admitted a.n a.b a.m a.server.now a.view.now a.log.now (sym c.admit.ensures ∙ not-refused _ c.in_default.not-Err) in
     let w = c.length_refusal-own in
-    let ch = length-change h (issuer a.program) a.object a.length w.result w.ensures in
-    let r = c.change_refusal-refused in
+    let ch = length-change h (issuer a.program) a.object a.length _ w.ensures in
+    let r = c.accept_change in
     let i = c.issue_length-number in
-    issued-outcome ch r.result r.ensures c.if-refused-ne-ACCEPTED.false (Operation.set_length a.object a.length) refl
-    (length_record (read_log a.m a.log.now).head.next a.program a.object a.length) refl i.result i.new.log i.new.view i.ensures c.of.result c.of.ensures
+    issued-outcome ch _ r.ensures.number (not-refused _ c.in_default-accept_change.not-Err) (Operation.set_length a.object a.length) refl
+    (length_record (read_log a.m a.log.now).head.next a.program a.object a.length) refl i.result i.new.log i.new.view i.ensures

@@ -1,9 +1,12 @@
 -- List asks of the view, and the object of an accepted one is below 256. Assumes nothing.
-use Rattle.std.specs.Prelude.{ℕ, ◌<◌, ◌≡◌, refl, List, length}
+use Rattle.std.specs.Prelude.{ℕ, ◌<◌, ◌≡◌, refl, List, [], ◌∷◌, length, Result, Err}
 use Rattle.std.proofs.Common.{arith, sym, ap, ◌∙◌}
 use Rattle.volume_tree.specs.Volume.{Volume}
 use Rattle.volume_tree.specs.Stored.{read_volume}
-use Rattle.volume_questions.specs.declared.object.Object.{Object}
+use Rattle.volume_questions.specs.declared.object.ObjectKind.{ObjectKind}
+use Rattle.volume_questions.specs.declared.object.ObjectError.{ObjectError}
+use Rattle.volume_questions.specs.declared.listing.ListError.{ListError}
+use Rattle.volume_questions.specs.declared.listing.ListError.TheVariants.{BadNumber, NoObject, WrongKind, Short}
 use Rattle.volume_questions.specs.Answer.{list_of, list_answer, list_leaves, list_number, list_results}
 use Rattle.volume_questions.specs.Listing.{listing}
 use Rattle.session.specs.Call.{Answer, answer}
@@ -22,9 +25,16 @@ pub list-asks : {n b m p : ℕ} {s v l : List ℕ} {o : ℕ} {own : List ℕ} �
 unfolding answer_of
 list-asks = record { is = refl; quiet = λ x. refl }
 
+-- "The other results of a refusal are 0."
+pub list-refused : (e : ListError) → list_results (Err e) ≡ 0 ∷ []
+list-refused BadNumber = refl
+list-refused NoObject = refl
+list-refused WrongKind = refl
+list-refused Short = refl
+
 -- The object of an accepted list is below 256.
 pub list-few : {n b m p : ℕ} {s v l : List ℕ} → MayAsk n b m p s v l → (o : ℕ) (own : List ℕ) → list_number (list_answer (read_volume n b v) o own) ≡ 0 → o < 256
 unfolding list_answer
 list-few {n} {b} {v = v} h o own e =
     let w = read_volume n b v in
-    named-few h o (λ f. let z : ◌≡◌ {A = ℕ} 7 0 = sym (ap (λ (x : Object). list_number (list_of x (listing w o (length w)) own)) f) ∙ e in omega arith)
+    named-few h o (λ f. let z : ◌≡◌ {A = ℕ} 7 0 = sym (ap (λ (x : Result ObjectKind ObjectError). list_number (list_of x (listing w o (length w)) own)) f) ∙ e in omega arith)

@@ -1,19 +1,19 @@
 -- Lookup asks of the view, and the objects that it meets are the volume's. Assumes nothing.
-use Rattle.std.specs.Prelude.{ℕ, ◌≤◌, ◌<◌, ◌≡◌, refl, List, [], ◌∷◌, Bool, true, false, ◌||◌, length, set, replicate, eqb, ltb}
+use Rattle.volume_lookup.specs.declared.lookup.LookupError.TheVariants.{BadName, LongName, NoObject, WrongKind}
+use Rattle.volume_lookup.specs.declared.lookup.LookupError.{LookupError}
+use Rattle.std.specs.Prelude.{ℕ, ◌≤◌, ◌<◌, ◌≡◌, refl, List, [], ◌∷◌, Bool, true, false, ◌||◌, length, set, replicate, eqb, ltb, Result, Ok, Err, Option, None, Some}
 use Rattle.std.proofs.Common.{arith, ap, ◌∙◌, length-set, get_or-set_same, get_or-set_other, eqb-true, ltb-true, lt-ltb}
 use Rattle.std.proofs.Math.Bool.{and-eq-true_iff}
 use Rattle.std.proofs.lemmas.Bool.{eqb-false}
 use Rattle.buffer.specs.Laws.Zero.{zeros-at}
 use Rattle.paths.specs.declared.PathText.{PathText}
-use Rattle.paths.specs.declared.PathText.TheVariants.{Bad, Root, Components}
+use Rattle.paths.specs.declared.PathText.TheVariants.{Root, Components}
 use Rattle.paths.specs.Path.{path_text_of, components}
 use Rattle.record.specs.Fields.{member, all_below}
 use Rattle.volume_tree.specs.Volume.{Volume}
 use Rattle.volume_tree.specs.Stored.{read_volume}
 use Rattle.volume_tree.specs.Laws.Lent.{length-read}
 use Rattle.log_rules.specs.Code.Flags.{stands, Holds}
-use Rattle.volume_lookup.specs.declared.lookup.Reached.{Reached}
-use Rattle.volume_lookup.specs.declared.lookup.Reached.TheVariants.{Found, BadName, LongName, NoObject, WrongKind}
 use Rattle.volume_lookup.specs.Lookup.{component_answer, next_objects, components_objects, path_objects, lookup_answer, lookup_operands, reached_number, reached_results}
 use Rattle.volume_lookup.specs.Laws.Lookup.{found_below}
 use Rattle.volume_lookup.specs.Code.Marks.{objects_marked}
@@ -31,6 +31,13 @@ lookup_gives v path = answer (reached_number (lookup_answer v path)) (reached_re
 pub lookup-asks : {n b m p : ℕ} {s v l path : List ℕ} → Asks n b m p s v l (Call.lookup p path) (lookup_gives (read_volume n b v) path)
 unfolding answer_of
 lookup-asks = record { is = refl; quiet = λ x. refl }
+
+-- "The other results of a refusal are 0."
+pub lookup-refused : (e : LookupError) → reached_results (Err e) ≡ 0 ∷ []
+lookup-refused BadName = refl
+lookup-refused LongName = refl
+lookup-refused NoObject = refl
+lookup-refused WrongKind = refl
 
 -- the marks with some objects added have these and what they had
 marked-stands : (l m : List ℕ) → all_below (length m) l ≡ true → (x : ℕ) → stands (objects_marked l m) x ≡ (member x l || stands m x)
@@ -55,22 +62,22 @@ unfolding components_objects all_below
 objects-below v k le o [] = refl
 objects-below v k le o (c ∷ cs) = go (component_answer v o c) refl (λ i. objects-below v k le i cs)
   where
-    go : (r : Reached) → component_answer v o c ≡ r → ((i : ℕ) → all_below k (components_objects v i cs) ≡ true)
+    go : (r : Result ℕ LookupError) → component_answer v o c ≡ r → ((i : ℕ) → all_below k (components_objects v i cs) ≡ true)
         → all_below k (next_objects r (λ i. components_objects v i cs)) ≡ true
-    go (Found i) e rest = let lt = found_below v o c i e in rw (lt-ltb i k (omega arith)) (rest i)
-    go BadName e rest = refl
-    go LongName e rest = refl
-    go NoObject e rest = refl
-    go WrongKind e rest = refl
+    go (Ok i) e rest = let lt = found_below v o c i e in rw (lt-ltb i k (omega arith)) (rest i)
+    go (Err BadName) e rest = refl
+    go (Err LongName) e rest = refl
+    go (Err NoObject) e rest = refl
+    go (Err WrongKind) e rest = refl
 
 operands-below : (v : Volume) (k : ℕ) → length v ≤ k → 0 < k → (path : List ℕ) → all_below k (lookup_operands v path) ≡ true
 unfolding lookup_operands all_below
 operands-below v k le h path = go (path_text_of path)
   where
-    go : (t : PathText) → all_below k (path_objects t (components_objects v 0 (components path))) ≡ true
-    go Bad = refl
-    go Root = rw (lt-ltb 0 k h)
-    go Components = rw (lt-ltb 0 k h) (objects-below v k le 0 (components path))
+    go : (t : Option PathText) → all_below k (path_objects t (components_objects v 0 (components path))) ≡ true
+    go None = refl
+    go (Some Root) = rw (lt-ltb 0 k h)
+    go (Some Components) = rw (lt-ltb 0 k h) (objects-below v k le 0 (components path))
 
 -- Marks that were none hold just lookup's operands.
 pub marks-held : {n b m p : ℕ} {s v l : List ℕ} → MayAsk n b m p s v l → (path : List ℕ) {marks : List ℕ}

@@ -1,7 +1,7 @@
 -- The table of create and make directory behind the text of the name: the object, the directory, and what is taken. Assumes nothing.
 use Rattle.std.specs.Prelude.{ℕ, ◌<◌, ◌≤◌, ◌≡◌, refl, List, [], ◌∷◌, ◌++◌, Bool, true, false, not, ◌||◌, length, eqb}
 use Rattle.std.proofs.Common.{sym, ◌∙◌}
-use Rattle.std.proofs.Math.Option.{none, some}
+use Rattle.std.specs.Prelude.{None, Some}
 use borrow.Author.Tests.{eq-eqb, ne_eqb, lt-ltb, le-ltb}
 use Rattle.returned.specs.Returned
 use Rattle.volume_entry.specs.Entry.{is_used, is_directory}
@@ -62,10 +62,10 @@ module _ (v : Volume) (d : ℕ) (n : List ℕ) (o : ℕ) where
       unfolding first_number
       object-taken z h = new-decided z 10 (rw (h, or-true (not (is_absent (search v d n)))))
 
-      pub name-taken : k ≡ 0 → (i : ℕ) → search v d n ≡ some i → 10 ≡ first_number (new_rows v d n o)
+      pub name-taken : k ≡ 0 → (i : ℕ) → search v d n ≡ Some i → 10 ≡ first_number (new_rows v d n o)
       unfolding first_number
       name-taken z i h = new-decided z 10 (rw h)
 
-      pub none-taken : k ≡ 0 → is_used (entry_at v o) ≡ false → search v d n ≡ none → 0 ≡ first_number (new_rows v d n o)
+      pub none-taken : k ≡ 0 → is_used (entry_at v o) ≡ false → search v d n ≡ None → 0 ≡ first_number (new_rows v d n o)
       unfolding first_number
       none-taken z u h = new-decided z 0 (rw (h, u))

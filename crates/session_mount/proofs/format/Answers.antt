@@ -1,6 +1,5 @@
 -- `session_mount::format` meets its contract. Assumes nothing.
-use mathlib.Core.Path.{sym, ap, ◌∙◌}
-use Rattle.returned.specs.declared.Code.{Code}
+use mathlib.Core.Path.{sym, ◌∙◌}
 use Rattle.session_mount.specs.Laws.Mount.{fits-lent, format-fits, format-wrong, format-made, format-left}
 use Rattle.session_mount.proofs.format.Goals as goal
 
@@ -13,7 +12,7 @@ pub returns-then-volume_fits : goal.returns-then-volume_fits
 returns-then-volume_fits c =
     let e = sym c.volume_fits.ensures ∙ c.if-volume_fits.true in
     record {
-      returned = ap (λ (r : Code). r.returned) c.of.ensures ∙ format-fits _ _ e;
+      returned = format-fits _ _ e;
       volume = c.format_volume.ensures ∙ format-made _ _ e;
     }
 
@@ -21,6 +20,6 @@ pub returns : goal.returns
 returns c =
     let e = sym c.volume_fits.ensures ∙ c.if-volume_fits.false in
     record {
-      returned = ap (λ (r : Code). r.returned) c.of-2.ensures ∙ format-wrong _ _ e;
+      returned = format-wrong _ _ e;
       volume = format-left _ _ e;
     }

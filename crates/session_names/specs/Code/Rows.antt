@@ -1,7 +1,9 @@
 -- The parts of the tables of the calls on names that these share: the text of a name, and the object that it leads to.
-use Rattle.std.specs.Prelude.{ℕ, ◌≡◌, List, [], ◌∷◌, not, ◌&&◌, ◌||◌}
-use Rattle.std.proofs.Math.Option.{some}
+use Rattle.std.specs.Prelude.{ℕ, ◌≡◌, List, [], ◌∷◌, not, ◌&&◌, ◌||◌, Result, Ok}
+use Rattle.std.specs.Prelude.{Some}
 use Rattle.returned.specs.Returned
+use Rattle.returned.specs.declared.Refusal.{Refusal}
+use Rattle.returned.specs.Refusal.{number_of}
 use Rattle.names.specs.Name.{name_text_of}
 use Rattle.volume_entry.specs.Entry.{is_directory}
 use Rattle.volume_tree.specs.Volume.{Volume, entry_at, search}
@@ -22,7 +24,7 @@ found_rows v d n =
     ∷ row Returned.wrong_kind (not (is_directory (entry_at v d)))
     ∷ []
 
--- the number of a table, and with 0 the object that the name leads to
-pub record Finds (v : Volume) (d : ℕ) (n : List ℕ) (rows : List Row) (k o : ℕ) : Type 0 where
-  pub number : k ≡ first_number rows
-  pub found : k ≡ 0 → search v d n ≡ some o
+-- the refusal of a table, or the object that the name leads to
+pub record Finds (v : Volume) (d : ℕ) (n : List ℕ) (rows : List Row) (q : Result ℕ Refusal) : Type 0 where
+  pub number : number_of q ≡ first_number rows
+  pub found : (o : ℕ) → q ≡ Ok o → search v d n ≡ Some o

@@ -4,7 +4,7 @@ use Rattle.std.proofs.Common.{arith, ◌∙◌}
 use Rattle.std.proofs.Math.Path.{refl, sym, ap}
 use mathlib.Core.List.{List, []}
 use Rattle.std.proofs.Math.Bool.{true}
-use Rattle.std.proofs.Math.Option.{Option, none, some}
+use Rattle.std.specs.Prelude.{Option, None, Some}
 use Rattle.returned.specs.Returned
 use Rattle.record.specs.Operation.{Record}
 use Rattle.volume_tree.specs.Stored.{encode_volume, read_volume}
@@ -14,7 +14,6 @@ use Rattle.log_rules.specs.Stored.{encode_log, read_log}
 use Rattle.log_rules.specs.Order.{preceded}
 use Rattle.log_rules.specs.Change.{sent, is_sequence, waiting_of, waiting_at}
 use Rattle.log_rules.specs.Code.Slots.{slot_at}
-use Rattle.log_find.specs.declared.Position.TheVariants.{At, Nothing}
 use Rattle.log_find.specs.Code.Found.{FoundBy}
 use Rattle.log_find.specs.Laws.Found.{found-earliest, found_nothing}
 use Rattle.log_push.specs.Code.Pushed.{Pushed}
@@ -41,17 +40,17 @@ module _ (n b m q : ℕ) (s v l : List ℕ) (h : Admitted n b m s v l) where
   answers f e = ap (λ (y : Option Record). unless (push q) (push_rows (waiting_of slots) y) (push_answer (read_volume n b s) y)) e
 
   -- "16 None: sequence not waiting".
-  pub push-none : FoundBy (is_sequence q) (read_log m l).slots Nothing → given 16 [] [] (buffers s v l) ≡ step (geometry n b m) (push q) (buffers s v l)
+  pub push-none : FoundBy (is_sequence q) (read_log m l).slots None → given 16 [] [] (buffers s v l) ≡ step (geometry n b m) (push q) (buffers s v l)
   unfolding first_number waiting_at
   push-none f =
-      sym (refused n b m s v l h (push q) (push_rows (waiting_of slots) none) (push_answer (read_volume n b s) none)
-      (answers none (found_nothing (is_sequence q) slots f)) refl 16 refl (λ z. omega arith) refl)
+      sym (refused n b m s v l h (push q) (push_rows (waiting_of slots) None) (push_answer (read_volume n b s) None)
+      (answers None (found_nothing (is_sequence q) slots f)) refl 16 refl (λ z. omega arith) refl)
 
-  module _ (i : ℕ) (f : FoundBy (is_sequence q) (read_log m l).slots (At i)) where
+  module _ (i : ℕ) (f : FoundBy (is_sequence q) (read_log m l).slots (Some i)) where
     abbrev record-at : Record
     record-at = (slot_at slots i).recorded
 
-    found : waiting_at q (read_log m l) ≡ some record-at
+    found : waiting_at q (read_log m l) ≡ Some record-at
     unfolding waiting_at
     found = found-earliest (is_sequence q) slots i f
 
@@ -60,15 +59,15 @@ module _ (n b m q : ℕ) (s v l : List ℕ) (h : Admitted n b m s v l) where
         → given 15 [] [] (buffers s v l) ≡ step (geometry n b m) (push q) (buffers s v l)
     unfolding first_number
     push-behind e =
-        sym (refused n b m s v l h (push q) (push_rows (waiting_of slots) (some record-at)) (push_answer (read_volume n b s) (some record-at))
-        (answers (some record-at) found) refl 15 (rw e) (λ z. omega arith) refl)
+        sym (refused n b m s v l h (push q) (push_rows (waiting_of slots) (Some record-at)) (push_answer (read_volume n b s) (Some record-at))
+        (answers (Some record-at) found) refl 15 (rw e) (λ z. omega arith) refl)
 
     module _ (first : preceded (waiting_of (read_log m l).slots) (slot_at (read_log m l).slots i).recorded ≡ false) where
-      goes_on : answer_of (geometry n b m) (push q) (model_in n b m s v l) ≡ push_answer (read_volume n b s) (some record-at)
+      goes_on : answer_of (geometry n b m) (push q) (model_in n b m s v l) ≡ push_answer (read_volume n b s) (Some record-at)
       unfolding first_number
       goes_on =
-          answered n b m s v l h (push q) (push_rows (waiting_of slots) (some record-at)) (push_answer (read_volume n b s) (some record-at))
-          (answers (some record-at) found) refl (rw first)
+          answered n b m s v l h (push q) (push_rows (waiting_of slots) (Some record-at)) (push_answer (read_volume n b s) (Some record-at))
+          (answers (Some record-at) found) refl (rw first)
 
       -- "Push sends the waiting operation of a given sequence number and frees its slot."
       pub push-sends : (s' l' : List ℕ) → Pushed b m (read_volume n b s) (read_log m l) i l l' s' true

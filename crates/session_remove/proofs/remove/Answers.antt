@@ -1,4 +1,6 @@
 -- `session_remove::remove` meets its contract. Assumes nothing.
+use Rattle.returned.specs.Refusal.{number_of}
+use Rattle.returned.specs.Laws.Refusal.{refused-number, refused-some, refused-none, accepted-number, not-refused}
 use native.Mathlib.Omega.{arith}
 use mathlib.Core.Path.{refl, sym, ◌∙◌}
 use Rattle.record.specs.Operation.{Operation}
@@ -13,43 +15,43 @@ use Rattle.session_remove.specs.Code.Remove.{remove_change}
 use Rattle.session_remove.specs.Laws.Call.{remove-change, remove-issues, remove-issuing, remove-record}
 use Rattle.session_remove.proofs.remove.Goals as goal
 
-pub returns-then-wrong-ne-ACCEPTED : goal.returns-then-wrong-ne-ACCEPTED
-returns-then-wrong-ne-ACCEPTED c =
+pub returns-in-Err : goal.returns-in-Err
+returns-in-Err c =
     let a = c.args in
     lent-refuses (geometry a.n a.b a.m) (issuer a.program) (remove_change a.directory a.parent a.name.now) (buffers a.server.now a.view.now a.log.now)
-    c.admit-wrong.result c.admit-wrong.ensures c.if-wrong-ne-ACCEPTED.true c.refused.result c.refused.ensures
+    c.admit.result c.admit.ensures c.in-Err.refusal c.in-Err.is
 
-pub remove_refusal-sought-requires : goal.remove_refusal-sought-requires
-remove_refusal-sought-requires c =
+pub removed_object-own-requires : goal.removed_object-own-requires
+removed_object-own-requires c =
     let a = c.args in
-    (admitted a.n a.b a.m a.server.now a.view.now a.log.now (sym c.admit-wrong.ensures ∙ c.if-wrong-ne-ACCEPTED.false)).view.lent
+    (admitted a.n a.b a.m a.server.now a.view.now a.log.now (sym c.admit.ensures ∙ not-refused _ c.in_default.not-Err)).view.lent
 
-pub change_refusal-refused-requires : goal.change_refusal-refused-requires
-change_refusal-refused-requires c =
+pub accept_change-requires : goal.accept_change-requires
+accept_change-requires c =
     let a = c.args in
     record {
-      logged = (admitted a.n a.b a.m a.server.now a.view.now a.log.now (sym c.admit-wrong.ensures ∙ c.if-wrong-ne-ACCEPTED.false)).log;
+      logged = (admitted a.n a.b a.m a.server.now a.view.now a.log.now (sym c.admit.ensures ∙ not-refused _ c.in_default.not-Err)).log;
       count_bound = omega arith;
     }
 
-pub returns-then-refused-ne-ACCEPTED : goal.returns-then-refused-ne-ACCEPTED
-returns-then-refused-ne-ACCEPTED c =
+pub returns-in-Err-accept_change : goal.returns-in-Err-accept_change
+returns-in-Err-accept_change c =
     let a = c.args in
-    let h = admitted a.n a.b a.m a.server.now a.view.now a.log.now (sym c.admit-wrong.ensures ∙ c.if-wrong-ne-ACCEPTED.false) in
+    let h = admitted a.n a.b a.m a.server.now a.view.now a.log.now (sym c.admit.ensures ∙ not-refused _ c.in_default.not-Err) in
     let ch = remove-change a.n a.b a.m (issuer a.program) a.server.now a.view.now a.log.now h a.directory a.parent a.name.now
-    c.remove_refusal-sought.result.refused c.remove_refusal-sought.result.object c.remove_refusal-sought.ensures in
-    change-refuses ch c.change_refusal-refused.result c.change_refusal-refused.ensures c.if-refused-ne-ACCEPTED.true c.refused-then-refused-ne-ACCEPTED.result c.refused-then-refused-ne-ACCEPTED.ensures
+    c.removed_object-own.result c.removed_object-own.ensures in
+    change-refuses ch c.accept_change.result c.accept_change.ensures.number c.in-Err-accept_change.refusal c.in-Err-accept_change.is
 
 pub issue_entry-next-requires : goal.issue_entry-next-requires
 issue_entry-next-requires c =
     let a = c.args in
-    let h = admitted a.n a.b a.m a.server.now a.view.now a.log.now (sym c.admit-wrong.ensures ∙ c.if-wrong-ne-ACCEPTED.false) in
+    let h = admitted a.n a.b a.m a.server.now a.view.now a.log.now (sym c.admit.ensures ∙ not-refused _ c.in_default.not-Err) in
     let ch = remove-change a.n a.b a.m (issuer a.program) a.server.now a.view.now a.log.now h a.directory a.parent a.name.now
-    c.remove_refusal-sought.result.refused c.remove_refusal-sought.result.object c.remove_refusal-sought.ensures in
-    let is = c.remove_refusal-sought.ensures.found (change-own ch c.change_refusal-refused.result c.change_refusal-refused.ensures c.if-refused-ne-ACCEPTED.false) in
+    c.removed_object-own.result c.removed_object-own.ensures in
+    let is = c.removed_object-own.ensures.found _ (c.accept_change.ensures.value _ c.in-Ok.is) in
     let i = remove-issuing a.n a.b a.m (issuer a.program) a.server.now a.view.now a.log.now h a.directory a.parent a.name.now
-    c.remove_refusal-sought.result.object is (change-accepted ch c.change_refusal-refused.result c.change_refusal-refused.ensures c.if-refused-ne-ACCEPTED.false) in
-    let r = remove-record (read_log a.m a.log.now).head.next a.program c.remove_refusal-sought.result.object a.parent a.name.now in
+    c.in-Ok.object is (change-accepted ch (number_of c.accept_change.result) c.accept_change.ensures.number (accepted-number c.in-Ok.is)) in
+    let r = remove-record (read_log a.m a.log.now).head.next a.program c.in-Ok.object a.parent a.name.now in
     record {
       logged = h.log;
       formed = h.view;
@@ -61,14 +63,13 @@ issue_entry-next-requires c =
 pub returns : goal.returns
 returns c =
     let a = c.args in
-    let h = admitted a.n a.b a.m a.server.now a.view.now a.log.now (sym c.admit-wrong.ensures ∙ c.if-wrong-ne-ACCEPTED.false) in
+    let h = admitted a.n a.b a.m a.server.now a.view.now a.log.now (sym c.admit.ensures ∙ not-refused _ c.in_default.not-Err) in
     let ch = remove-change a.n a.b a.m (issuer a.program) a.server.now a.view.now a.log.now h a.directory a.parent a.name.now
-    c.remove_refusal-sought.result.refused c.remove_refusal-sought.result.object c.remove_refusal-sought.ensures in
-    let is = c.remove_refusal-sought.ensures.found
-    (change-own ch c.change_refusal-refused.result c.change_refusal-refused.ensures c.if-refused-ne-ACCEPTED.false) in
-    let r = remove-record (read_log a.m a.log.now).head.next a.program c.remove_refusal-sought.result.object a.parent a.name.now in
-    issued-outcome ch c.change_refusal-refused.result c.change_refusal-refused.ensures c.if-refused-ne-ACCEPTED.false
-    (Operation.remove c.remove_refusal-sought.result.object a.parent a.name.now)
-    (remove-issues a.directory (told_of (model_in a.n a.b a.m a.server.now a.view.now a.log.now)) (issuer a.program) a.parent a.name.now c.remove_refusal-sought.result.object is) _ r
+    c.removed_object-own.result c.removed_object-own.ensures in
+    let is = c.removed_object-own.ensures.found _ (c.accept_change.ensures.value _ c.in-Ok.is) in
+    let r = remove-record (read_log a.m a.log.now).head.next a.program c.in-Ok.object a.parent a.name.now in
+    issued-outcome ch (number_of c.accept_change.result) c.accept_change.ensures.number (accepted-number c.in-Ok.is)
+    (Operation.remove c.in-Ok.object a.parent a.name.now)
+    (remove-issues a.directory (told_of (model_in a.n a.b a.m a.server.now a.view.now a.log.now)) (issuer a.program) a.parent a.name.now c.in-Ok.object is) _ r
     c.issue_entry-next.result
-    c.issue_entry-next.new.log c.issue_entry-next.new.view c.issue_entry-next.ensures c.of.result c.of.ensures
+    c.issue_entry-next.new.log c.issue_entry-next.new.view c.issue_entry-next.ensures

@@ -1,9 +1,12 @@
 -- Remove file and remove directory as changes: their tables, and the operation that each issues where it is accepted. Assumes nothing.
-use Rattle.std.specs.Prelude.{ℕ, ◌≡◌, refl, List, [], ◌∷◌, Bool}
+use Rattle.returned.specs.declared.Refusal.{Refusal}
+use Rattle.returned.specs.Refusal.{number_of}
+use Rattle.returned.specs.Laws.Refusal.{value-there}
+use Rattle.std.specs.Prelude.{ℕ, ◌≡◌, refl, List, [], ◌∷◌, Bool, Result}
 use Rattle.std.proofs.Math.Path.{ap, subst}
 use Rattle.std.proofs.Common.{◌∙◌}
 use Rattle.std.proofs.Math.Bool.{true, false}
-use Rattle.std.proofs.Math.Option.{Option, some}
+use Rattle.std.specs.Prelude.{Option, Some}
 use Rattle.std.proofs.Math.ListN.{length}
 use Rattle.record.specs.Operation.{Operation, record_of}
 use Rattle.record.specs.declared.kind.Kind.TheVariants.{Remove}
@@ -27,21 +30,23 @@ remove-removes : (dir : Bool) (t : Told) (i : Issuer) (d : ℕ) (name : List ℕ
 remove-removes true t i d name = refl
 remove-removes false t i d name = refl
 
-pub remove-issues : (dir : Bool) (t : Told) (i : Issuer) (d : ℕ) (name : List ℕ) (o : ℕ) → search t.view d name ≡ some o → issues t (remove_call dir i d name) ≡ Operation.remove o d name ∷ []
+pub remove-issues : (dir : Bool) (t : Told) (i : Issuer) (d : ℕ) (name : List ℕ) (o : ℕ) → search t.view d name ≡ Some o → issues t (remove_call dir i d name) ≡ Operation.remove o d name ∷ []
 remove-issues dir t i d name o e = remove-removes dir t i d name ∙ ap (λ (w : Option ℕ). on_found w (λ i. Operation.remove i d name)) e
 
 module _ (n b m : ℕ) (i : Issuer) (s v l : List ℕ) (h : Admitted n b m s v l) where
-  pub remove-change : (dir : Bool) (d : ℕ) (name : List ℕ) (own o : ℕ) → Finds (read_volume n b v) d name (remove_rows (removed_kind dir) (read_volume n b v) d name) own o
-      → ChangeBy n b m i s v l (remove_change dir d name) own 1
+  pub remove-change : (dir : Bool) (d : ℕ) (name : List ℕ) (own : Result ℕ Refusal) → Finds (read_volume n b v) d name (remove_rows (removed_kind dir) (read_volume n b v) d name) own
+      → ChangeBy n b m i s v l (remove_change dir d name) (number_of own) 1
   unfolding answer_of
-  remove-change true d name own o f =
-      let many : own ≡ 0 → length (issues (told_of (model_in n b m s v l)) (remove_call true i d name)) ≡ 1 = λ z. ap length (remove-issues true (told_of (model_in n b m s v l)) i d name o (f.found z)) in
+  remove-change true d name own f =
+      let many : number_of own ≡ 0 → length (issues (told_of (model_in n b m s v l)) (remove_call true i d name)) ≡ 1 =
+      λ z. let o = value-there own z in ap length (remove-issues true (told_of (model_in n b m s v l)) i d name o.0 (f.found o.0 o.1)) in
       record { held = h; rise = refl; number = f.number; many = many }
-  remove-change false d name own o f =
-      let many : own ≡ 0 → length (issues (told_of (model_in n b m s v l)) (remove_call false i d name)) ≡ 1 = λ z. ap length (remove-issues false (told_of (model_in n b m s v l)) i d name o (f.found z)) in
+  remove-change false d name own f =
+      let many : number_of own ≡ 0 → length (issues (told_of (model_in n b m s v l)) (remove_call false i d name)) ≡ 1 =
+      λ z. let o = value-there own z in ap length (remove-issues false (told_of (model_in n b m s v l)) i d name o.0 (f.found o.0 o.1)) in
       record { held = h; rise = refl; number = f.number; many = many }
 
-  pub remove-issuing : (dir : Bool) (d : ℕ) (name : List ℕ) (o : ℕ) → search (read_volume n b v) d name ≡ some o
+  pub remove-issuing : (dir : Bool) (d : ℕ) (name : List ℕ) (o : ℕ) → search (read_volume n b v) d name ≡ Some o
       → (answer_of (geometry n b m) (remove_call dir i d name) (model_in n b m s v l)).returned ≡ 0
       → Issuing (geometry n b m) (model_in n b m s v l) i.program (Operation.remove o d name ∷ [])
   unfolding answer_of

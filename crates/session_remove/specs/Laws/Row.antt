@@ -1,7 +1,10 @@
 -- The table of either remove, part by part. Assumes nothing.
-use Rattle.std.specs.Prelude.{ℕ, ◌≡◌, refl, List, [], ◌∷◌, Bool, true, false, not, ◌&&◌, ◌||◌}
+use Rattle.returned.specs.declared.Refusal.{Refusal}
+use Rattle.returned.specs.Refusal.{number_of}
+use Rattle.returned.specs.Laws.Refusal.{refused-number, refused-some, refused-none, accepted-number}
+use Rattle.std.specs.Prelude.{ℕ, ◌≡◌, refl, List, [], ◌∷◌, Bool, true, false, not, ◌&&◌, ◌||◌, Result, Ok, Err, Some}
 use Rattle.std.proofs.Common.{sym, ap, ◌∙◌}
-use Rattle.std.proofs.Math.Option.{Option}
+use Rattle.std.specs.Prelude.{Option}
 use Rattle.returned.specs.Returned
 use Rattle.volume_entry.specs.Entry.{Entry, is_directory}
 use Rattle.volume_tree.specs.Volume.{Volume, entry_at, search, has_children}
@@ -39,19 +42,28 @@ removal_rows takes v d n =
     ∷ []
 
 -- Either remove, part by part: the text, the name, and what was found.
-module _ (takes : Entry → Bool) (v : Volume) (d : ℕ) (n : List ℕ) (t : ℕ) (text : t ≡ first_number (text_rows n)) where
-  pub remove-text : (t ≡ 0 → ⊥) → Finds v d n (remove_rows takes v d n) t 0
-  remove-text z = record { number = stops_first (text_rows n) (removal_rows takes v d n) t text z; found = λ y. absurd (z y) }
+module _ (takes : Entry → Bool) (v : Volume) (d : ℕ) (n : List ℕ) (q : Result (Unit {0}) Refusal) (text : number_of q ≡ first_number (text_rows n)) where
+  pub remove-text : (f : Refusal) → q ≡ Err f → Finds v d n (remove_rows takes v d n) (Err f)
+  remove-text f e =
+      record {
+        number = sym (refused-number e) ∙ stops_first (text_rows n) (removal_rows takes v d n) (number_of q) text (refused-some e);
+        found = λ o z. refused-none f o z;
+      }
 
-  module _ (z : t ≡ 0) (k o : ℕ) (f : Finds v d n (found_rows v d n) k o) where
+  module _ (z : number_of q ≡ 0) (k : Result ℕ Refusal) (f : Finds v d n (found_rows v d n) k) where
     behind : (j : ℕ) → j ≡ first_number (removal_rows takes v d n) → j ≡ first_number (remove_rows takes v d n)
-    behind j e = goes_on 0 (text_rows n) (removal_rows takes v d n) refl t j text z e
+    behind j e = goes_on 0 (text_rows n) (removal_rows takes v d n) refl (number_of q) j text z e
 
-    pub remove-refused : (k ≡ 0 → ⊥) → Finds v d n (remove_rows takes v d n) k o
-    remove-refused y = record { number = behind k (place-refused _ _ _ _ _ k f.number y); found = λ x. absurd (y x) }
+    pub remove-refused : (e : Refusal) → k ≡ Err e → Finds v d n (remove_rows takes v d n) (Err e)
+    remove-refused e w =
+        record {
+          number = sym (refused-number w) ∙ behind (number_of k) (place-refused _ _ _ _ _ (number_of k) f.number (refused-some w));
+          found = λ o z. refused-none e o z;
+        }
 
-    pub remove-found : k ≡ 0 → (j : ℕ) → j ≡ first_number (choice_rows takes v o) → Finds v d n (remove_rows takes v d n) j o
-    remove-found y j e =
-        let is = f.found y in
+    pub remove-found : (o : ℕ) → k ≡ Ok o → (r : Result ℕ Refusal) → number_of r ≡ first_number (choice_rows takes v o) → ((x : ℕ) → r ≡ Ok x → o ≡ x)
+        → Finds v d n (remove_rows takes v d n) r
+    remove-found o w r e same =
+        let is = f.found o w in
         let asked = ap (λ (w : Option ℕ). first_number (row 9 (of_found w (λ i. not (takes (entry_at v i)))) ∷ row 11 (of_found w (has_children v)) ∷ [])) (sym is) in
-        record { number = behind j (e ∙ asked ∙ place-decided _ _ _ _ _ k f.number y); found = λ x. is }
+        record { number = behind (number_of r) (e ∙ asked ∙ place-decided _ _ _ _ _ (number_of k) f.number (accepted-number w)); found = λ x h. is ∙ ap {B = Option ℕ} Some (same x h) }

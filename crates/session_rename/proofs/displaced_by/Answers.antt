@@ -1,6 +1,5 @@
 -- `session_rename::displaced_by` meets its contract. Assumes nothing.
 use mathlib.Core.Path.{sym, ◌∙◌}
-use native.Mathlib.Omega.{arith}
 use Rattle.volume_tree.specs.Volume.{search as search_in}
 use Rattle.volume_tree.specs.Stored.{read_volume}
 use Rattle.volume_tree.specs.Laws.Lent.{length-read}
@@ -13,23 +12,23 @@ pub returns-then-i-object : goal.returns-then-i-object
 returns-then-i-object c =
     let a = c.args in
     let v = read_volume a.n a.b a.view.now in
-    let i = c.in-At.i in
-    let h = found_at (search_in v a.parent a.name.now) i (sym c.in-At.is ∙ c.search.ensures) in
-    (displaces-itself v a.object a.parent a.name.now i h c.if-i-object.true, omega (arith, c.requires.fewest))
+    let i = c.in-Some.i in
+    let h = found_at (search_in v a.parent a.name.now) i (sym c.in-Some.is ∙ c.search.ensures) in
+    (displaces-itself v a.object a.parent a.name.now i h c.if-i-object.true, λ j y. absurd (cc))
 
 pub returns-else-i-object : goal.returns-else-i-object
 returns-else-i-object c =
     let a = c.args in
     let v = read_volume a.n a.b a.view.now in
-    let i = c.in-At.i in
-    let h = found_at (search_in v a.parent a.name.now) i (sym c.in-At.is ∙ c.search.ensures) in (
+    let i = c.in-Some.i in
+    let h = found_at (search_in v a.parent a.name.now) i (sym c.in-Some.is ∙ c.search.ensures) in (
       displaces-another v a.object a.parent a.name.now i h c.if-i-object.false,
-      rw (length-read a.n a.b a.view.now) at (found-object v a.parent a.name.now i h).0,
+      λ j y. rw (length-read a.n a.b a.view.now) at (found-object v a.parent a.name.now j (h ∙ y)).0,
     )
 
-pub returns-in-Nothing : goal.returns-in-Nothing
-returns-in-Nothing c =
+pub returns-in-None : goal.returns-in-None
+returns-in-None c =
     let a = c.args in
     let v = read_volume a.n a.b a.view.now in
-    let h = found_nothing (search_in v a.parent a.name.now) (sym c.in-Nothing.is ∙ c.search.ensures) in
-    (displaces-none v a.object a.parent a.name.now h, omega (arith, c.requires.fewest))
+    let h = found_nothing (search_in v a.parent a.name.now) (sym c.in-None.is ∙ c.search.ensures) in
+    (displaces-none v a.object a.parent a.name.now h, λ j y. absurd (cc))

@@ -11,34 +11,34 @@ returns-then-leaves_parent c =
     let a = c.args in
     move-leaves (read_volume a.n a.b a.view.now) a.parent a.second a.object a.displaced (sym c.leaves_parent.ensures ∙ c.if-leaves_parent.true)
 
-pub returns-then-displaced-eq0 : goal.returns-then-displaced-eq0
-returns-then-displaced-eq0 c =
+pub returns-in_default : goal.returns-in_default
+returns-in_default c =
     let a = c.args in
-    move-free (read_volume a.n a.b a.view.now) a.parent a.second a.object a.displaced (sym c.leaves_parent.ensures ∙ c.if-leaves_parent.false)
-    c.if-displaced-eq0.true
+    move-free (read_volume a.n a.b a.view.now) a.parent a.second a.object (sym c.leaves_parent.ensures ∙ c.if-leaves_parent.false)
+    a.displaced c.in_default.not-Some
 
 pub returns-then-kind : goal.returns-then-kind
 returns-then-kind c =
     let a = c.args in
     let one = of_entry kind_number c.entry.ensures c.kind.ensures in
     let other = of_entry kind_number c.entry-2.ensures c.kind-2.ensures in
-    move-mixed (read_volume a.n a.b a.view.now) a.parent a.second a.object a.displaced
-    (sym c.leaves_parent.ensures ∙ c.if-leaves_parent.false) c.if-displaced-eq0.false (λ q. c.if-kind.true (one ∙ q ∙ sym other))
+    rw c.in-Some.is
+    (move-mixed (read_volume a.n a.b a.view.now) a.parent a.second a.object (sym c.leaves_parent.ensures ∙ c.if-leaves_parent.false) c.in-Some.gone (λ q. c.if-kind.true (one ∙ q ∙ sym other)))
 
 pub returns-then-has_children : goal.returns-then-has_children
 returns-then-has_children c =
     let a = c.args in
     let one = of_entry kind_number c.entry.ensures c.kind.ensures in
     let other = of_entry kind_number c.entry-2.ensures c.kind-2.ensures in
-    move-full (read_volume a.n a.b a.view.now) a.parent a.second a.object a.displaced
-    (sym c.leaves_parent.ensures ∙ c.if-leaves_parent.false) c.if-displaced-eq0.false (sym one ∙ c.if-kind.false ∙ other)
-    (sym c.has_children.ensures ∙ c.if-has_children.true)
+    rw c.in-Some.is
+    (move-full (read_volume a.n a.b a.view.now) a.parent a.second a.object (sym c.leaves_parent.ensures ∙ c.if-leaves_parent.false) c.in-Some.gone (sym one ∙ c.if-kind.false ∙ other)
+    (sym c.has_children.ensures ∙ c.if-has_children.true))
 
 pub returns : goal.returns
 returns c =
     let a = c.args in
     let one = of_entry kind_number c.entry.ensures c.kind.ensures in
     let other = of_entry kind_number c.entry-2.ensures c.kind-2.ensures in
-    move-fine (read_volume a.n a.b a.view.now) a.parent a.second a.object a.displaced
-    (sym c.leaves_parent.ensures ∙ c.if-leaves_parent.false) c.if-displaced-eq0.false (sym one ∙ c.if-kind.false ∙ other)
-    (sym c.has_children.ensures ∙ c.if-has_children.false)
+    rw c.in-Some.is
+    (move-fine (read_volume a.n a.b a.view.now) a.parent a.second a.object (sym c.leaves_parent.ensures ∙ c.if-leaves_parent.false) c.in-Some.gone (sym one ∙ c.if-kind.false ∙ other)
+    (sym c.has_children.ensures ∙ c.if-has_children.false))

@@ -1,14 +1,19 @@
 -- The table of rename, part by part: the texts, the two sides, what was found and what it displaces. Assumes nothing.
-use Rattle.std.specs.Prelude.{ℕ, ◌<◌, ◌≡◌, refl, List, [], ◌∷◌, Bool, true, false, not, ◌&&◌, ◌||◌, eqb}
-use Rattle.std.proofs.Common.{arith, sym, ap, ◌∙◌}
-use Rattle.std.proofs.Math.Option.{Option, none, some}
-use borrow.Author.Tests.{eqb-true, eqb-false, eq-eqb, ne_eqb, lt-ltb}
+use Rattle.returned.specs.declared.Refusal.{Refusal}
+use Rattle.returned.specs.Refusal.{refusal_number, number_of}
+use Rattle.returned.specs.Laws.Refusal.{refused-number, refused-some, refused-none, accepted-number}
+use Rattle.session_rename.specs.declared.Move.{Move}
+use Rattle.session_rename.specs.Code.Rename.{move}
+use Rattle.std.proofs.Common.{subst}
+use Rattle.std.specs.Prelude.{ℕ, ◌≡◌, refl, List, [], ◌∷◌, Bool, true, false, not, ◌&&◌, ◌||◌, eqb, Result, Ok, Err}
+use Rattle.std.proofs.Common.{sym, ap, ◌∙◌}
+use Rattle.std.specs.Prelude.{Option, None, Some}
+use borrow.Author.Tests.{eqb-true, eqb-false, eq-eqb, ne_eqb}
 use Rattle.returned.specs.Returned
 use Rattle.names.specs.Name.{name_text_of}
 use Rattle.volume_entry.specs.Entry.{is_directory, kind_number}
 use Rattle.volume_tree.specs.Volume.{Volume, entry_at, search, has_children}
 use Rattle.volume_apply.specs.Apply.{is_absent}
-use Rattle.record_writer.specs.Code.Writer.{displaced_by}
 use Rattle.session.specs.Issue.{displaced}
 use Rattle.session.specs.Refusal.{Row, row, lower}
 use Rattle.session.specs.Model.{is_bad, is_long, outside, is_free}
@@ -18,7 +23,7 @@ use Rattle.session.proofs.Laws.Refusal.{lower-is}
 use Rattle.session_admission.specs.Code.Objects.{directory_rows}
 use Rattle.session_change.specs.Laws.Change.{stops_first, goes_on}
 use Rattle.session_names.specs.Code.Rows.{text_rows, found_rows, Finds}
-use Rattle.session_names.specs.Laws.Row.{place-refused, place-decided, found-object}
+use Rattle.session_names.specs.Laws.Row.{place-refused, place-decided}
 use Rattle.session_rename.specs.Code.Rename.{move_rows, Moves}
 
 -- Two names: the lower number of their texts.
@@ -120,79 +125,91 @@ module _ (v : Volume) (d : ℕ) (n : List ℕ) (e : ℕ) (s : List ℕ) where
     places-refused z = place-refused (none_below v d e) (no_objects v d n e) (no_directories v d e) (of_found (search v d n) (wrong_rename v d e s)) (displaces_full v d n e s) k whole z
 
     -- With none, what was found decides.
-    pub places-decided : k ≡ 0 → (o : ℕ) → search v d n ≡ some o → first_number (move_rows v d e o (displaced o (search v e s))) ≡ first_number (places_rows v d n e s)
+    pub places-decided : k ≡ 0 → (o : ℕ) → search v d n ≡ Some o → first_number (move_rows v d e o (displaced o (search v e s))) ≡ first_number (places_rows v d n e s)
     places-decided z o h =
         ap (λ (f : Option ℕ). first_number (row 9 (of_found f (wrong_rename v d e s)) ∷ row 11 (of_found f (λ i. of_found (displaced i (search v e s)) (has_children v))) ∷ [])) (sym h)
         ∙ place-decided (none_below v d e) (no_objects v d n e) (no_directories v d e) (of_found (search v d n) (wrong_rename v d e s)) (displaces_full v d n e s) k whole z
 
--- What a rename displaces, as a number: 0 is none.
+-- What a rename displaces.
 module _ (v : Volume) (o e : ℕ) (s : List ℕ) where
-  pub displaces-itself : (i : ℕ) → search v e s ≡ some i → i ≡ o → none ≡ displaced o (search v e s)
+  pub displaces-itself : (i : ℕ) → search v e s ≡ Some i → i ≡ o → None ≡ displaced o (search v e s)
   displaces-itself i h q = rw (h, eq-eqb i o q)
 
-  pub displaces-another : (i : ℕ) → search v e s ≡ some i → (i ≡ o → ⊥) → displaced_by i ≡ displaced o (search v e s)
-  displaces-another i h q =
-      let z = (found-object v e s i h).1 in
-      let low : 0 < i = omega arith in
-      rw (h, ne_eqb i o q, lt-ltb 0 i low)
+  pub displaces-another : (i : ℕ) → search v e s ≡ Some i → (i ≡ o → ⊥) → Some i ≡ displaced o (search v e s)
+  displaces-another i h q = rw (h, ne_eqb i o q)
 
-  pub displaces-none : search v e s ≡ none → none ≡ displaced o (search v e s)
+  pub displaces-none : search v e s ≡ None → None ≡ displaced o (search v e s)
   displaces-none h = rw h
 
 -- What was found and what it displaces, test by test.
-module _ (v : Volume) (d e o t : ℕ) where
-  pub move-leaves : (is_directory (entry_at v o) && not (eqb d e)) ≡ true → 9 ≡ first_number (move_rows v d e o (displaced_by t))
+module _ (v : Volume) (d e o : ℕ) where
+  pub move-leaves : (t : Option ℕ) → (is_directory (entry_at v o) && not (eqb d e)) ≡ true → 9 ≡ first_number (move_rows v d e o t)
   unfolding first_number
-  move-leaves h = rw h
+  move-leaves t h = rw h
 
   module _ (stays : (is_directory (entry_at v o) && not (eqb d e)) ≡ false) where
-    pub move-free : t ≡ 0 → 0 ≡ first_number (move_rows v d e o (displaced_by t))
+    pub move-free : (t : Option ℕ) → ((i : ℕ) → t ≡ Some i → ⊥) → 0 ≡ first_number (move_rows v d e o t)
     unfolding first_number
-    move-free z = rw (stays, z)
+    move-free (Some i) f = absurd (f i refl)
+    move-free None f = rw stays
 
-    module _ (other : t ≡ 0 → ⊥) where
-      displaces : displaced_by t ≡ some t
-      displaces = let low : 0 < t = omega arith in rw (lt-ltb 0 t low)
-
-      pub move-mixed : (kind_number (entry_at v t) ≡ kind_number (entry_at v o) → ⊥) → 9 ≡ first_number (move_rows v d e o (displaced_by t))
+    module _ (t : ℕ) where
+      pub move-mixed : (kind_number (entry_at v t) ≡ kind_number (entry_at v o) → ⊥) → 9 ≡ first_number (move_rows v d e o (Some t))
       unfolding first_number
-      move-mixed q = rw (stays, displaces, ne_eqb (kind_number (entry_at v t)) (kind_number (entry_at v o)) q)
+      move-mixed q = rw (stays, ne_eqb (kind_number (entry_at v t)) (kind_number (entry_at v o)) q)
 
-      pub move-full : kind_number (entry_at v t) ≡ kind_number (entry_at v o) → has_children v t ≡ true → 11 ≡ first_number (move_rows v d e o (displaced_by t))
+      pub move-full : kind_number (entry_at v t) ≡ kind_number (entry_at v o) → has_children v t ≡ true → 11 ≡ first_number (move_rows v d e o (Some t))
       unfolding first_number
-      move-full q h = rw (stays, displaces, eq-eqb (kind_number (entry_at v t)) (kind_number (entry_at v o)) q, h)
+      move-full q h = rw (stays, eq-eqb (kind_number (entry_at v t)) (kind_number (entry_at v o)) q, h)
 
-      pub move-fine : kind_number (entry_at v t) ≡ kind_number (entry_at v o) → has_children v t ≡ false → 0 ≡ first_number (move_rows v d e o (displaced_by t))
+      pub move-fine : kind_number (entry_at v t) ≡ kind_number (entry_at v o) → has_children v t ≡ false → 0 ≡ first_number (move_rows v d e o (Some t))
       unfolding first_number
-      move-fine q h = rw (stays, displaces, eq-eqb (kind_number (entry_at v t)) (kind_number (entry_at v o)) q, h)
+      move-fine q h = rw (stays, eq-eqb (kind_number (entry_at v t)) (kind_number (entry_at v o)) q, h)
 
 -- Rename, part by part: the texts, the two sides, and what was found.
-module _ (v : Volume) (d : ℕ) (n : List ℕ) (e : ℕ) (s : List ℕ) (i j : ℕ) (first : i ≡ first_number (text_rows n)) (second : j ≡ first_number (text_rows s)) (t : ℕ)
-    (lowest : t ≡ lower i j) where
-  text : t ≡ first_number (texts_rows n s)
+module _ (v : Volume) (d : ℕ) (n : List ℕ) (e : ℕ) (s : List ℕ) (i j : ℕ) (first : i ≡ first_number (text_rows n)) (second : j ≡ first_number (text_rows s))
+    (q : Result (Unit {0}) Refusal) (lowest : number_of q ≡ lower i j) where
+  text : number_of q ≡ first_number (texts_rows n s)
   text = lowest ∙ rw (first, second) (texts-number n s)
 
-  pub rename-text : (t ≡ 0 → ⊥) → Moves v d n e s t 0 0
-  rename-text z =
-      record { number = stops_first (texts_rows n s) (places_rows v d n e s) t text z; found = λ y. absurd (z y); displaces = λ y. absurd (z y) }
+  pub rename-text : (f : Refusal) → q ≡ Err f → Moves v d n e s (Err f)
+  rename-text f w =
+      record {
+        number = sym (refused-number w) ∙ stops_first (texts_rows n s) (places_rows v d n e s) (number_of q) text (refused-some w);
+        found = λ x z. refused-none f x z;
+        displaces = λ x z. refused-none f x z;
+      }
 
-  module _ (z : t ≡ 0) (p q o : ℕ) (f : Finds v d n (found_rows v d n) p o) (to : q ≡ first_number (directory_rows v e)) (k : ℕ) (low : k ≡ lower p q) where
+  module _ (z : number_of q ≡ 0) (p : Result ℕ Refusal) (to : ℕ) (f : Finds v d n (found_rows v d n) p) (there : to ≡ first_number (directory_rows v e)) (k : Result ℕ Refusal)
+      (low : number_of k ≡ lower (number_of p) to) (own : (x : ℕ) → k ≡ Ok x → p ≡ Ok x) where
     beyond : (x : ℕ) → x ≡ first_number (places_rows v d n e s) → x ≡ first_number (rename_rows v d n e s)
-    beyond x h = goes_on 0 (texts_rows n s) (places_rows v d n e s) refl t x text z h
+    beyond x h = goes_on 0 (texts_rows n s) (places_rows v d n e s) refl (number_of q) x text z h
 
-    pub rename-place : (k ≡ 0 → ⊥) → Moves v d n e s k 0 0
-    rename-place y =
-        record { number = beyond k (places-refused v d n e s p q f.number to k low y); found = λ x. absurd (y x); displaces = λ x. absurd (y x) }
-
-    pub rename-found : k ≡ 0 → search v d n ≡ some o
-    rename-found y = f.found (lower-zero p q (sym low ∙ y)).0
-
-    pub rename-moved : k ≡ 0 → (r : ℕ) → displaced_by r ≡ displaced o (search v e s) → (x : ℕ) → x ≡ first_number (move_rows v d e o (displaced_by r)) → Moves v d n e s x o r
-    rename-moved y r h x g =
-        let is = rename-found y in
-        let moves = ap (λ (w : Option ℕ). first_number (move_rows v d e o w)) h in
+    pub rename-place : (r : Refusal) → k ≡ Err r → Moves v d n e s (Err r)
+    rename-place r w =
         record {
-          number = beyond x (g ∙ moves ∙ places-decided v d n e s p q f.number to k low y o is);
-          found = λ u. is;
-          displaces = λ u. h;
+          number = sym (refused-number w) ∙ beyond (number_of k) (places-refused v d n e s (number_of p) to f.number there (number_of k) low (refused-some w));
+          found = λ x y. refused-none r x y;
+          displaces = λ x y. refused-none r x y;
         }
+
+    module _ (o : ℕ) (w : k ≡ Ok o) where
+      pub rename-found : search v d n ≡ Some o
+      rename-found = f.found o (own o w)
+
+      -- the number of what was found and what it displaces is the rename's
+      pub rename-number : (r : Option ℕ) → r ≡ displaced o (search v e s) → (x : ℕ) → x ≡ first_number (move_rows v d e o r) → x ≡ first_number (rename_rows v d n e s)
+      rename-number r h x g =
+          let moves = ap (λ (w : Option ℕ). first_number (move_rows v d e o w)) h in
+          beyond x (g ∙ moves ∙ places-decided v d n e s (number_of p) to f.number there (number_of k) low (accepted-number w) o rename-found)
+
+      pub rename-refused : (r : Option ℕ) → r ≡ displaced o (search v e s) → (a : Refusal) → refusal_number a ≡ first_number (move_rows v d e o r) → Moves v d n e s (Err a)
+      rename-refused r h a g = record { number = rename-number r h (refusal_number a) g; found = λ x y. refused-none a x y; displaces = λ x y. refused-none a x y }
+
+      pub rename-moved : (r : Option ℕ) → r ≡ displaced o (search v e s) → 0 ≡ first_number (move_rows v d e o r) → Moves v d n e s (Ok (move o r))
+      rename-moved r h g =
+          record {
+            number = rename-number r h 0 g;
+            found = λ x y. let m : move o r ≡ x = cc in subst (λ (x : Move). search v d n ≡ Some x.object) m rename-found;
+            displaces = λ x y. let m : move o r ≡ x = cc in subst (λ (x : Move). x.displaced ≡ displaced x.object (search v e s)) m h;
+          }

@@ -3,13 +3,12 @@ use Rattle.std.specs.Prelude.{ℕ, ◌≡◌, true, false, not}
 use Rattle.std.proofs.Common.{arith, ◌∙◌}
 use Rattle.std.proofs.Math.Path.{refl, sym, ap}
 use mathlib.Core.List.{List, [], ◌∷◌}
-use Rattle.std.proofs.Math.Option.{Option, none, some}
+use Rattle.std.specs.Prelude.{Option, None, Some}
 use Rattle.returned.specs.Returned
 use Rattle.record.specs.Operation.{Record}
 use Rattle.log_rules.specs.Stored.{encode_log, read_log}
 use Rattle.log_rules.specs.Change.{is_loss_of, earliest, renewed}
 use Rattle.log_rules.specs.Code.Slots.{slot_at}
-use Rattle.log_find.specs.declared.Position.TheVariants.{At, Nothing}
 use Rattle.log_find.specs.Code.Found.{FoundBy}
 use Rattle.log_find.specs.Laws.Found.{found-earliest, found_nothing}
 use Rattle.session.specs.Call.{geometry, buffers, renew, answer}
@@ -40,18 +39,18 @@ module _ (n b m p : ℕ) (s v l : List ℕ) (h : Admitted n b m s v l) where
 
   module _ (e : 0 ≡ first_number (bad_program p ∷ [])) where
     -- "18 Losses left".
-    pub renew-left : (i : ℕ) → FoundBy (is_loss_of p) (read_log m l).slots (At i) → given 18 [] [] (buffers s v l) ≡ step (geometry n b m) (renew p) (buffers s v l)
+    pub renew-left : (i : ℕ) → FoundBy (is_loss_of p) (read_log m l).slots (Some i) → given 18 [] [] (buffers s v l) ≡ step (geometry n b m) (renew p) (buffers s v l)
     unfolding first_number
     renew-left i f =
         let r = (slot_at (read_log m l).slots i).recorded in
-        sym (refused n b m s v l h (renew p) (bad_program p ∷ renew_rows (some r)) (answer 0 [] []) (answers (some r) (found-earliest (is_loss_of p) (read_log m l).slots i f)) refl 18
-        (number_behind p (renew_rows (some r)) e 18 refl) (λ z. omega arith) refl)
+        sym (refused n b m s v l h (renew p) (bad_program p ∷ renew_rows (Some r)) (answer 0 [] []) (answers (Some r) (found-earliest (is_loss_of p) (read_log m l).slots i f)) refl 18
+        (number_behind p (renew_rows (Some r)) e 18 refl) (λ z. omega arith) refl)
 
     -- "Renew clears its mark."
-    pub renew-clears : FoundBy (is_loss_of p) (read_log m l).slots Nothing → (after : List ℕ) → after ≡ encode_log m (renewed p (read_log m l))
+    pub renew-clears : FoundBy (is_loss_of p) (read_log m l).slots None → (after : List ℕ) → after ≡ encode_log m (renewed p (read_log m l))
         → given 0 [] [] (buffers s v after) ≡ step (geometry n b m) (renew p) (buffers s v l)
     unfolding first_number perform_all perform
     renew-clears f after g =
-        sym (accepted n b m s v l h (renew p) (bad_program p ∷ renew_rows none) (answer 0 [] []) (answers none (found_nothing (is_loss_of p) (read_log m l).slots f)) refl
-        (number_behind p (renew_rows none) e 0 refl) refl
+        sym (accepted n b m s v l h (renew p) (bad_program p ∷ renew_rows None) (answer 0 [] []) (answers None (found_nothing (is_loss_of p) (read_log m l).slots f)) refl
+        (number_behind p (renew_rows None) e 0 refl) refl
         ∙ (λ i. record { gives = answer 0 [] []; leaves = buffers (h.server.stored i) (h.view.stored i) (sym g i) }))

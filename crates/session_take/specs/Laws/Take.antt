@@ -2,14 +2,13 @@
 use Rattle.std.specs.Prelude.{ℕ, ◌<◌, ◌≤◌, ◌≡◌, List, [], ◌∷◌, true, false, length, ltb}
 use Rattle.std.proofs.Common.{arith, ◌∙◌, lt-ltb, le-ltb}
 use Rattle.std.proofs.Math.Path.{refl, sym, ap}
-use Rattle.std.proofs.Math.Option.{Option, none, some}
+use Rattle.std.specs.Prelude.{Option, None, Some}
 use Rattle.returned.specs.Returned
 use Rattle.buffer.specs.Patch.{patch}
 use Rattle.record.specs.Operation.{Record}
 use Rattle.log_rules.specs.Stored.{encode_log, read_log}
 use Rattle.log_rules.specs.Change.{is_loss_of, earliest}
 use Rattle.log_rules.specs.Code.Slots.{slot_at}
-use Rattle.log_find.specs.declared.Position.TheVariants.{At, Nothing}
 use Rattle.log_find.specs.Code.Found.{FoundBy}
 use Rattle.log_find.specs.Laws.Found.{found_nothing}
 use Rattle.log_take.specs.Code.Taken.{Written, freed_at}
@@ -47,13 +46,13 @@ module _ (n b m p : ℕ) (s v l own : List ℕ) (h : Admitted n b m s v l) where
 
   module _ (e : 0 ≡ first_number (bad_program p ∷ [])) where
     -- "16 None: .. no loss to take".
-    pub take_none : FoundBy (is_loss_of p) (read_log m l).slots Nothing → given 16 (0 ∷ []) own (buffers s v l) ≡ step (geometry n b m) (take p own) (buffers s v l)
+    pub take_none : FoundBy (is_loss_of p) (read_log m l).slots None → given 16 (0 ∷ []) own (buffers s v l) ≡ step (geometry n b m) (take p own) (buffers s v l)
     unfolding first_number
     take_none f =
-        sym (refused n b m s v l h (take p own) (bad_program p ∷ take_rows own none) (take_answer own none) (answers none (found_nothing (is_loss_of p) (read_log m l).slots f)) refl 16
-        (number_behind p (take_rows own none) e 16 refl) (λ z. omega arith) refl)
+        sym (refused n b m s v l h (take p own) (bad_program p ∷ take_rows own None) (take_answer own None) (answers None (found_nothing (is_loss_of p) (read_log m l).slots f)) refl 16
+        (number_behind p (take_rows own None) e 16 refl) (λ z. omega arith) refl)
 
-    module _ (i : ℕ) (f : FoundBy (is_loss_of p) (read_log m l).slots (At i)) where
+    module _ (i : ℕ) (f : FoundBy (is_loss_of p) (read_log m l).slots (Some i)) where
       abbrev loss : Record
       loss = (slot_at (read_log m l).slots i).recorded
 
@@ -61,8 +60,8 @@ module _ (n b m p : ℕ) (s v l own : List ℕ) (h : Admitted n b m s v l) where
       pub take_short : length own < 1040 → given 19 (0 ∷ []) own (buffers s v l) ≡ step (geometry n b m) (take p own) (buffers s v l)
       unfolding first_number
       take_short lt =
-          sym (refused n b m s v l h (take p own) (bad_program p ∷ take_rows own (some loss)) (take_answer own (some loss)) (answers (some loss) (found-taken p i (read_log m l) f).1) refl 19
-          (number_behind p (take_rows own (some loss)) e 19 (rw (lt-ltb (length own) 1040 lt))) (λ z. omega arith) refl)
+          sym (refused n b m s v l h (take p own) (bad_program p ∷ take_rows own (Some loss)) (take_answer own (Some loss)) (answers (Some loss) (found-taken p i (read_log m l) f).1) refl 19
+          (number_behind p (take_rows own (Some loss)) e 19 (rw (lt-ltb (length own) 1040 lt))) (λ z. omega arith) refl)
 
       -- "Take writes the earliest loss of a program and frees its slot."
       pub take-writes : 1040 ≤ length own → (own' after : List ℕ) (len : ℕ) → Written (slot_at (read_log m l).slots i).recorded own own' len
@@ -70,6 +69,6 @@ module _ (n b m p : ℕ) (s v l own : List ℕ) (h : Admitted n b m s v l) where
       unfolding first_number perform_all perform
       take-writes le own' after len w g =
           let freed = g ∙ ap (encode_log m) (found-taken p i (read_log m l) f).0 in
-          sym (accepted n b m s v l h (take p own) (bad_program p ∷ take_rows own (some loss)) (take_answer own (some loss)) (answers (some loss) (found-taken p i (read_log m l) f).1) refl
-          (number_behind p (take_rows own (some loss)) e 0 (rw (le-ltb (length own) 1040 le))) refl
+          sym (accepted n b m s v l h (take p own) (bad_program p ∷ take_rows own (Some loss)) (take_answer own (Some loss)) (answers (Some loss) (found-taken p i (read_log m l) f).1) refl
+          (number_behind p (take_rows own (Some loss)) e 0 (rw (le-ltb (length own) 1040 le))) refl
           ∙ (λ j. record { gives = answer 0 (sym w.long j ∷ []) (sym w.placed j); leaves = buffers (h.server.stored j) (h.view.stored j) (sym freed j) }))

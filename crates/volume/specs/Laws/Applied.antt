@@ -3,7 +3,7 @@
 use Rattle.std.specs.Prelude.{ℕ, ◌+◌, ◌*◌, ◌%◌, ◌≤◌, ◌<◌, ◌≡◌, not, ◌&&◌, List, leb, ltb, eqb}
 use Rattle.std.proofs.Common.{arith}
 use Rattle.std.proofs.Math.Bool.{true, and-eq-true_iff}
-use Rattle.std.proofs.Math.Option.{Option, none, some}
+use Rattle.std.specs.Prelude.{Option, None, Some}
 use Rattle.std.proofs.Math.ListN.{length}
 use borrow.Author.Tests.{leb-true, ltb-true, eqb-true, eqb-false, not-true}
 use Rattle.buffer.specs.Geometry.{block_bytes}
@@ -35,11 +35,11 @@ room-free v o p m t =
 -- the second name of a rename is valid, displaced object or not
 second-valid : (o p q : ℕ) (d : Option ℕ) (k m : List ℕ)
     → if_stands (stands_in (map_of (rename o p q d k m)) 32) (valid_name m) ≡ true → valid_name m ≡ true
-second-valid o p q none k m t = t
-second-valid o p q (some d) k m t = t
+second-valid o p q None k m t = t
+second-valid o p q (Some d) k m t = t
 
 -- the displaced object is another one
-differ : (o p q d : ℕ) (k m : List ℕ) → tied (map_of (rename o p q (some d) k m)) (parts (rename o p q (some d) k m)) ≡ true → o ≡ d → ⊥
+differ : (o p q d : ℕ) (k m : List ℕ) → tied (map_of (rename o p q (Some d) k m)) (parts (rename o p q (Some d) k m)) ≡ true → o ≡ d → ⊥
 unfolding tied differing
 differ o p q d k m t = eqb-false o d (not-true (eqb o d) ((and-eq-true_iff (not (eqb o d)) _).0 t).0)
 
@@ -88,8 +88,8 @@ module _ (n b : ℕ) (v : Volume) (r : Record) (w : well_formed n b v ≡ true) 
       (named-below v o x.named, x.named, (valid-length m (second-valid o p q d k m (rw e at (valid-inv r h).second_name))).1, go d e y.1)
     where
       go : (d : Option ℕ) → r.operation ≡ rename o p q d k m → yields v o q d m ≡ true → Displaces n b v o d
-      go none e y = tt
-      go (some d) e y =
+      go None e y = tt
+      go (Some d) e y =
           let x = displaced-good n b v w o q d m y in
           let size = (well-formed-inv n b v w).size in
           (omega (arith, x.0, size), differ o p q d k m (rw e at (valid-inv r h).tie), x.1)

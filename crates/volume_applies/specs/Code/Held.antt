@@ -1,6 +1,6 @@
 -- An operation in the code is the slice that holds its record, with what the reader found there.
 use Rattle.std.specs.Prelude.{ℕ, ◌<◌, ◌≡◌, List, true, set}
-use Rattle.std.proofs.Math.Option.{Option, none, some}
+use Rattle.std.specs.Prelude.{Option, None, Some}
 use Rattle.record_reader.specs.declared.Whole.{Whole}
 use Rattle.record.specs.Operation.{Operation}
 use Rattle.record.specs.Fields.{valid, fits}
@@ -20,5 +20,5 @@ pub record Fitting (n b : ℕ) (s : List ℕ) (w : Whole) : Type 0 where
 
 -- an object that a rename displaces is another one, and the volume is well formed without it
 abbrev pub Displaces : ℕ → ℕ → Volume → ℕ → Option ℕ → Type 0
-Displaces n b v o none = Unit
-Displaces n b v o (some d) = (d < n) × (o ≡ d → ⊥) × (well_formed n b (set v d free) ≡ true)
+Displaces n b v o None = Unit
+Displaces n b v o (Some d) = (d < n) × (o ≡ d → ⊥) × (well_formed n b (set v d free) ≡ true)

@@ -1,6 +1,6 @@
 -- What is known of an operation that a slice holds, by its kind: which it is, and that its objects are below n.
 -- Assumes nothing.
-use Rattle.std.specs.Prelude.{ℕ, ◌<◌, ◌≡◌, List, [], ◌∷◌, ◌++◌, Bool, true, false, length, take, ltb}
+use Rattle.std.specs.Prelude.{ℕ, ◌<◌, ◌≡◌, List, [], ◌∷◌, ◌++◌, Bool, true, false, length, take, ltb, None}
 use Rattle.std.proofs.Math.Path.{refl, ap}
 use Rattle.std.proofs.Common.{sym, ◌∙◌, take_at, ltb-true}
 use Rattle.std.proofs.Math.Bool.{and-eq-true_iff}
@@ -12,7 +12,6 @@ use Rattle.record_reader.specs.declared.Objects.{Objects}
 use Rattle.record_reader.specs.declared.Whole.{Whole}
 use Rattle.record.specs.Operation.{Operation, Record, present, operands}
 use Rattle.record.specs.Fields.{Parts, encode, stands_in, all_below, valid, fits, operation_of, displaced_if}
-use Rattle.record_reader.specs.declared.Reading.TheVariants.{Is as RecordIs, Bad as NoRecord}
 use Rattle.buffer.specs.Numeral.{Bytes}
 use Rattle.record_reader.specs.Code.Reader.{record_at}
 use Rattle.record_reader.specs.Code.Found.{parts_from, record_from, decoded, decode_at}
@@ -21,7 +20,7 @@ use Rattle.record_reader.specs.Laws.Complete.{record-complete}
 use Rattle.record_reader.specs.Laws.Exact.{encode-decode, record-back}
 use Rattle.record_reader.specs.Code.Fit.{fits_whole, fits_decoded}
 use Rattle.record_reader.specs.Laws.Fit.{fits_read}
-use Rattle.std.proofs.Math.Option.{some}
+use Rattle.std.specs.Prelude.{Some}
 use Rattle.volume_applies.specs.Code.Held.{operation_in, Fitting}
 
 -- the objects of an operation of a kind are below n: a displaced one too, if it has one
@@ -80,10 +79,10 @@ module _ (n b : ℕ) (s : List ℕ) (w : Whole) where
       kind-below k (ap (λ (o : Operation). all_below n (operands o)) (sym (operation-kind s w k e)) ∙ ((and-eq-true_iff _ _).0 f.fit).0)
 
 -- What the reader found, if it fits, is a valid record that fits: what a caller has tested is what applying asks.
-pub read-fitting : (n b : ℕ) (s : List ℕ) → Bytes s → (at : ℕ) (w : Whole) → record_at s at ≡ RecordIs w → fits_whole n b s w ≡ true → Fitting n b s w
+pub read-fitting : (n b : ℕ) (s : List ℕ) → Bytes s → (at : ℕ) (w : Whole) → record_at s at ≡ Some w → fits_whole n b s w ≡ true → Fitting n b s w
 unfolding decode_at
 read-fitting n b s byte at w e f =
-    let d : decode_at s at ≡ some (record_from s w) = ap (decoded s) e in
+    let d : decode_at s at ≡ Some (record_from s w) = ap (decoded s) e in
     record {
       sound = (encode-decode s byte at (record_from s w) d).0;
       fit = sym (ap (fits_decoded n b) d) ∙ fits_read s byte at n b w e ∙ f;
@@ -91,13 +90,13 @@ read-fitting n b s byte at w e f =
 
 -- A slice that begins with the bytes of a valid record: the reader finds that record there, and it fits if the record does.
 module _ (s : List ℕ) (r : Record) (rest : List ℕ) (sound : valid r ≡ true) (e : s ≡ encode r ++ rest) where
-  held-read : record_at s 0 ≡ RecordIs (whole_of r 0)
+  held-read : record_at s 0 ≡ Some (whole_of r 0)
   held-read = record-complete s 0 r rest sound e
 
-  pub held-there : NoRecord ≡ record_at s 0 → ⊥
+  pub held-there : None ≡ record_at s 0 → ⊥
   held-there q = let z : ◌≡◌ {A = ℕ} 0 1 = cc held-read in omega arith
 
-  module _ (w : Whole) (q : RecordIs w ≡ record_at s 0) where
+  module _ (w : Whole) (q : (Some w) ≡ record_at s 0) where
     held_whole : w ≡ whole_of r 0
     held_whole = cc held-read
 

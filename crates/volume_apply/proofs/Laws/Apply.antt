@@ -4,7 +4,7 @@ use Rattle.std.specs.Prelude.{ℕ, ◌+◌, ◌*◌, ◌≤◌, ◌<◌, ◌≡�
 use Rattle.std.proofs.Common.{arith, sym, ap, ◌∙◌, length-append, length-set, leb-true, ltb-true, eqb-true}
 use Rattle.std.proofs.Math.Bool.{and-eq-true_iff}
 use Rattle.std.proofs.lemmas.Bool.{false≢true, eqb-false, not-true}
-use Rattle.std.proofs.Math.Option.{Option, none, some}
+use Rattle.std.specs.Prelude.{Option, None, Some}
 use Rattle.names.specs.Name.{valid_name, same_name}
 use Rattle.names.proofs.Laws.Name.{same_refl}
 use Rattle.record.specs.Operation.{Operation, create_file, make_directory, remove, rename, overwrite, append, set_length, forder, Record, map_of, operands}
@@ -22,13 +22,13 @@ use Rattle.volume_apply.specs.Apply.{is_absent, is_at, leads, has_room, stays, d
 use Rattle.volume_tree.specs.Laws.Search.{entry-set-same, entry_set_other, file-below, named-below, Named, child-intro, named-inv, named-intro, search-found, search-none, childless}
 use Rattle.volume_tree.specs.Laws.Change.{same_or, Sound, well-formed-sound, sound-well-formed, child-named, no-directory, Keeps, leaf, place, named-before, set-sound}
 
-absent_none : (x : Option ℕ) → is_absent x ≡ true → x ≡ none
-absent_none none t = refl
-absent_none (some i) t = absurd (false≢true t)
+absent_none : (x : Option ℕ) → is_absent x ≡ true → x ≡ None
+absent_none None t = refl
+absent_none (Some i) t = absurd (false≢true t)
 
-at_some : (o : ℕ) (x : Option ℕ) → is_at o x ≡ true → x ≡ some o
-at_some o none t = absurd (false≢true t)
-at_some o (some i) t = ap some (eqb-true i o t)
+at_some : (o : ℕ) (x : Option ℕ) → is_at o x ≡ true → x ≡ Some o
+at_some o None t = absurd (false≢true t)
+at_some o (Some i) t = ap Some (eqb-true i o t)
 
 -- what a name leads to has that name in that directory
 pub leads-named : (v : Volume) (p : ℕ) (n : List ℕ) (o : ℕ) → leads v p n o ≡ true → (is_directory (entry_at v p) ≡ true) × Named v p n o
@@ -44,7 +44,7 @@ module _ (n b : ℕ) (v : Volume) (s : Sound n b v) where
   differ p o d f q = false≢true (sym f ∙ ap (λ (j : ℕ). is_directory (entry_at v j)) (sym q) ∙ d)
 
   -- nothing has a name that is absent
-  absent : (p : ℕ) (m : List ℕ) → search v p m ≡ none → (i : ℕ) → Named v p m i → ⊥
+  absent : (p : ℕ) (m : List ℕ) → search v p m ≡ None → (i : ℕ) → Named v p m i → ⊥
   absent p m e i x = false≢true (sym (search-none v p m e i (named-below v i x.named)) ∙ named-intro v p m i x)
 
   -- nothing but what it leads to has a name
@@ -128,16 +128,16 @@ module _ (n b : ℕ) (v : Volume) (s : Sound n b v) where
       keeps true f t = place (alike-directory (renamed e m q) e (renamed-kind e m q) ∙ f) (to ∙ sym (eqb-true p q t) ∙ sym x.parent)
 
   -- the second name of a rename without a displaced object is absent or leads to the object
-  yields-only : (o q : ℕ) (m : List ℕ) → yields v o q none m ≡ true → (i : ℕ) → Named v q m i → i ≡ o
+  yields-only : (o q : ℕ) (m : List ℕ) → yields v o q None m ≡ true → (i : ℕ) → Named v q m i → i ≡ o
   yields-only o q m t i x = go (search v q m) refl t
     where
       go : (y : Option ℕ) → search v q m ≡ y → is_absent y || is_at o y ≡ true → i ≡ o
-      go none e t = absurd (absent q m e i x)
-      go (some j) e t = found-only q m o (ap (is_at o) e ∙ t) i x
+      go None e t = absurd (absent q m e i x)
+      go (Some j) e t = found-only q m o (ap (is_at o) e ∙ t) i x
 
 -- a rename that displaces an object of the second name
 displaced-sound : (n b : ℕ) (v : Volume) → Sound n b v → (o p q d : ℕ) (k m : List ℕ) → (o ≡ d → ⊥) → Named v p k o → is_directory (entry_at v q) ≡ true
-    → stays v o p q ≡ true → valid_name m ≡ true → yields v o q (some d) m ≡ true → Sound n b (set (set v d free) o (renamed (entry_at v o) m q))
+    → stays v o p q ≡ true → valid_name m ≡ true → yields v o q (Some d) m ≡ true → Sound n b (set (set v d free) o (renamed (entry_at v o) m q))
 displaced-sound n b v s o p q d k m z x t w h y =
     let a = (and-eq-true_iff (is_at d (search v q m)) (eqb (kind_number (entry_at v d)) (kind_number (entry_at v o)) && not (has_children v d))).0 y in
     let c = (and-eq-true_iff (eqb (kind_number (entry_at v d)) (kind_number (entry_at v o))) (not (has_children v d))).0 a.1 in
@@ -156,7 +156,7 @@ displaced-sound n b v s o p q d k m z x t w h y =
     (ap (λ (y : Entry). not (is_directory y) || eqb p q) e ∙ w) h only)
 
 -- A volume is well formed without the object that a rename displaces.
-pub displaced-good : (n b : ℕ) (v : Volume) → well_formed n b v ≡ true → (o q d : ℕ) (m : List ℕ) → yields v o q (some d) m ≡ true
+pub displaced-good : (n b : ℕ) (v : Volume) → well_formed n b v ≡ true → (o q d : ℕ) (m : List ℕ) → yields v o q (Some d) m ≡ true
     → (d < length v) × (well_formed n b (set v d free) ≡ true)
 displaced-good n b v w o q d m y =
     let s = well-formed-sound n b v w in
@@ -180,15 +180,15 @@ applied-sound n b v s (remove o p m) w k t f a =
     let c = (and-eq-true_iff (leads v p m o) (not (has_children v o))).0 a in
     let x = (leads-named v p m o c.0).1 in
     free-sound n b v s o (named-below v o x.named) x.other (parent-of-none n b v s o x.other c.1)
-applied-sound n b v s (rename o p q none m l) w k t f a =
-    let c = (and-eq-true_iff (leads v p m o) (is_directory (entry_at v q) && (stays v o p q && yields v o q none l))).0 a in
-    let d = (and-eq-true_iff (is_directory (entry_at v q)) (stays v o p q && yields v o q none l)).0 c.1 in
-    let g = (and-eq-true_iff (stays v o p q) (yields v o q none l)).0 d.1 in
+applied-sound n b v s (rename o p q None m l) w k t f a =
+    let c = (and-eq-true_iff (leads v p m o) (is_directory (entry_at v q) && (stays v o p q && yields v o q None l))).0 a in
+    let d = (and-eq-true_iff (is_directory (entry_at v q)) (stays v o p q && yields v o q None l)).0 c.1 in
+    let g = (and-eq-true_iff (stays v o p q) (yields v o q None l)).0 d.1 in
     renamed-sound n b v s o p q m l (leads-named v p m o c.0).1 d.0 g.0 k (yields-only n b v s o q l g.1)
-applied-sound n b v s (rename o p q (some e) m l) w k t f a =
-    let c = (and-eq-true_iff (leads v p m o) (is_directory (entry_at v q) && (stays v o p q && yields v o q (some e) l))).0 a in
-    let d = (and-eq-true_iff (is_directory (entry_at v q)) (stays v o p q && yields v o q (some e) l)).0 c.1 in
-    let g = (and-eq-true_iff (stays v o p q) (yields v o q (some e) l)).0 d.1 in
+applied-sound n b v s (rename o p q (Some e) m l) w k t f a =
+    let c = (and-eq-true_iff (leads v p m o) (is_directory (entry_at v q) && (stays v o p q && yields v o q (Some e) l))).0 a in
+    let d = (and-eq-true_iff (is_directory (entry_at v q)) (stays v o p q && yields v o q (Some e) l)).0 c.1 in
+    let g = (and-eq-true_iff (stays v o p q) (yields v o q (Some e) l)).0 d.1 in
     let z = eqb-false o e (not-true (eqb o e) ((and-eq-true_iff (not (eqb o e)) _).0 t).0) in
     displaced-sound n b v s o p q e m l z (leads-named v p m o c.0).1 d.0 g.0 k g.1
 applied-sound n b v s (overwrite o f c) w k t h a =
@@ -220,8 +220,8 @@ unfolding apply
 apply-length v (create_file o p n) = length-set v o (file n p [])
 apply-length v (make_directory o p n) = length-set v o (directory n p)
 apply-length v (remove o p n) = length-set v o free
-apply-length v (rename o p q none n m) = length-set v o (renamed (entry_at v o) m q)
-apply-length v (rename o p q (some d) n m) = length-set (set v d free) o (renamed (entry_at v o) m q) ∙ length-set v d free
+apply-length v (rename o p q None n m) = length-set v o (renamed (entry_at v o) m q)
+apply-length v (rename o p q (Some d) n m) = length-set (set v d free) o (renamed (entry_at v o) m q) ∙ length-set v d free
 apply-length v (overwrite o f c) = length-set v o (refilled (entry_at v o) (patch (contents_of (entry_at v o)) f c))
 apply-length v (append o f c) = length-set v o (refilled (entry_at v o) (contents_of (entry_at v o) ++ c))
 apply-length v (set_length o f) = length-set v o (refilled (entry_at v o) (resized (contents_of (entry_at v o)) f))

@@ -5,7 +5,7 @@ use Rattle.std.specs.Prelude.{ℕ, ◌+◌, ◌<◌, ◌≡◌, refl, Bool, true
 use Rattle.std.proofs.Common.{sym, ap, ◌∙◌, length-set, ext_get_or, ltb-true, eq-eqb, eqb-true}
 use Rattle.std.proofs.Math.Bool.{and-eq-true_iff}
 use Rattle.std.proofs.lemmas.Bool.{false≢true, eqb-false, not-true}
-use Rattle.std.proofs.Math.Option.{Option, none, some}
+use Rattle.std.specs.Prelude.{Option, None, Some}
 use Rattle.names.specs.Name.{same_name}
 use Rattle.names.proofs.Laws.Name.{same_refl as name-refl}
 use Rattle.record.specs.Operation.{Operation, create_file, make_directory, remove, rename, overwrite, append, set_length, forder, Record, operands}
@@ -68,11 +68,11 @@ member-none i o l e = go (eqb i o) refl e
     go false t e = (eqb-false i o t, e)
 
 -- A directory without children has no names.
-kids-none : (v : Volume) (d : ℕ) → has_children v d ≡ false → (m : List ℕ) → search v d m ≡ none
+kids-none : (v : Volume) (d : ℕ) → has_children v d ≡ false → (m : List ℕ) → search v d m ≡ None
 kids-none v d t m = none-search v d m (λ i h. ap (λ (x : Bool). x && same_name (name_of (entry_at v i)) m) (childless v d (ap not t) i h))
 
 -- A directory in which every name is absent has no children.
-none-kids : (v : Volume) (d : ℕ) → ((m : List ℕ) → search v d m ≡ none) → has_children v d ≡ false
+none-kids : (v : Volume) (d : ℕ) → ((m : List ℕ) → search v d m ≡ None) → has_children v d ≡ false
 none-kids v d h = no-children v d (λ i l. go i l (is_child v d i) refl)
   where
     go : (i : ℕ) → i < length v → (t : Bool) → is_child v d i ≡ t → is_child v d i ≡ false
@@ -110,13 +110,13 @@ applies-local v w (remove o p n) l h =
     let s = h o (member-first o _) in
     let t = h p (member-next p o _ (member-first p _)) in
     λ j. (is_directory (t.entry j) && is_at o (t.found n j)) && not (s.kids j)
-applies-local v w (rename o p q none n m) l h =
+applies-local v w (rename o p q None n m) l h =
     let s = h o (member-first o _) in
     let t = h p (member-next p o _ (member-first p _)) in
     let u = h q (member-next q o _ (member-next q p _ (member-first q _))) in
     λ j. (is_directory (t.entry j) && is_at o (t.found n j)) && (is_directory (u.entry j)
     && ((not (is_directory (s.entry j)) || eqb p q) && (is_absent (u.found m j) || is_at o (u.found m j))))
-applies-local v w (rename o p q (some d) n m) l h =
+applies-local v w (rename o p q (Some d) n m) l h =
     let s = h o (member-first o _) in
     let t = h p (member-next p o _ (member-first p _)) in
     let u = h q (member-next q o _ (member-next q p _ (member-first q _))) in
@@ -144,8 +144,8 @@ One v = (d : ℕ) (m : List ℕ) (i j : ℕ) → Named v d m i → Named v d m j
 -- what a name leads to after an entry is put at a number: that number if it has the name now, nothing if it had it, else what
 -- it led to
 abbrev found_after : Bool → Bool → ℕ → Option ℕ → Option ℕ
-found_after true had o x = some o
-found_after false true o x = none
+found_after true had o x = Some o
+found_after false true o x = None
 found_after false false o x = x
 
 module _ (v : Volume) (o : ℕ) (e : Entry) (inside : o < length v) where
@@ -158,11 +158,11 @@ module _ (v : Volume) (o : ℕ) (e : Entry) (inside : o < length v) where
       → search (set v o e) d m ≡ found_after (names e o d m) (is_named v d m o) o (search v d m)
   search-after a b d m = go (names e o d m) (is_named v d m o) refl refl
     where
-      new : names e o d m ≡ true → (x : Option ℕ) → search (set v o e) d m ≡ x → search (set v o e) d m ≡ some o
-      new t none s =
+      new : names e o d m ≡ true → (x : Option ℕ) → search (set v o e) d m ≡ x → search (set v o e) d m ≡ Some o
+      new t None s =
           absurd (false≢true (sym (search-none (set v o e) d m s o (rw (length-set v o e) inside)) ∙ names-set d m ∙ t))
-      new t (some i) s =
-          s ∙ ap some (b d m i o (named-inv (set v o e) d m i (search-found (set v o e) d m i s).0) (named-inv (set v o e) d m o (names-set d m ∙ t)))
+      new t (Some i) s =
+          s ∙ ap Some (b d m i o (named-inv (set v o e) d m i (search-found (set v o e) d m i s).0) (named-inv (set v o e) d m o (names-set d m ∙ t)))
 
       gone : names e o d m ≡ false → is_named v d m o ≡ true → (i : ℕ) (x : Bool) → is_named (set v o e) d m i ≡ x → is_named (set v o e) d m i ≡ false
       gone t u i false s = s
@@ -238,7 +238,7 @@ unfolding applies
 rename-there v o p q d n m t = (leads-named v p n o ((and-eq-true_iff (leads v p n o) _).0 t).0).1
 
 -- the displaced object has the second name
-displaced-there : (v : Volume) (o p q d : ℕ) (n m : List ℕ) → applies v (rename o p q (some d) n m) ≡ true → Named v q m d
+displaced-there : (v : Volume) (o p q d : ℕ) (n m : List ℕ) → applies v (rename o p q (Some d) n m) ≡ true → Named v q m d
 unfolding applies
 displaced-there v o p q d n m t =
     let a = (and-eq-true_iff (leads v p n o) _).0 t in
@@ -257,11 +257,11 @@ local v w (make_directory o p n) l a b c d h t i s =
     set_local v w o (directory n p) (directory n p) (room-there v o p n t).0 l a b c d (h o (member-first o _)).entry refl i s
 local v w (remove o p n) l a b c d h t i s =
     set_local v w o free free (named-below v o (remove-there v o p n t).named) l a b c d (h o (member-first o _)).entry refl i s
-local v w (rename o p q none n m) l a b c d h t i s =
+local v w (rename o p q None n m) l a b c d h t i s =
     let e = (h o (member-first o _)).entry in
-    set_local v w o (renamed (entry_at v o) m q) (renamed (entry_at w o) m q) (named-below v o (rename-there v o p q none n m t).named) l a b c d e
+    set_local v w o (renamed (entry_at v o) m q) (renamed (entry_at w o) m q) (named-below v o (rename-there v o p q None n m t).named) l a b c d e
     (ap (λ (y : Entry). renamed y m q) e) i s
-local v w (rename o p q (some k) n m) l a b c d h t i s =
+local v w (rename o p q (Some k) n m) l a b c d h t i s =
     let e = (h o (member-first o _)).entry in
     let r = (h k (member-next k o _ (member-next k p _ (member-next k q _ (member-first k _))))).entry in
     let z : k < length v = named-below v k (displaced-there v o p q k n m t).named in
@@ -269,7 +269,7 @@ local v w (rename o p q (some k) n m) l a b c d h t i s =
     let b' = free_one w k (rw l at z) b in
     let step : (j : ℕ) → Same v w j → Same (set v k free) (set w k free) j = set_local v w k free free z l a b a' b' r refl in
     set_local (set v k free) (set w k free) o (renamed (entry_at v o) m q) (renamed (entry_at w o) m q)
-    (rw (length-set v k free) (named-below v o (rename-there v o p q (some k) n m t).named))
+    (rw (length-set v k free) (named-below v o (rename-there v o p q (Some k) n m t).named))
     (length-set v k free ∙ l ∙ sym (length-set w k free)) a' b' c d
     (step o (h o (member-first o _))).entry (ap (λ (y : Entry). renamed y m q) e) i (step i s)
 local v w (overwrite o f k) l a b c d h t i s =
@@ -317,19 +317,19 @@ apply-elsewhere v (remove o p n) t i h =
     let y = member-none i p _ z.1 in
     let r = remove-there v o p n t in
     set-outside v o free (named-below v o r.named) i z.0 (λ u. absurd (false≢true u)) (λ u q. y.0 (sym q ∙ r.parent))
-apply-elsewhere v (rename o p q none n m) t i h =
+apply-elsewhere v (rename o p q None n m) t i h =
     let z = member-none i o _ h in
     let y = member-none i p _ z.1 in
     let x = member-none i q _ y.1 in
-    let r = rename-there v o p q none n m t in
+    let r = rename-there v o p q None n m t in
     set-outside v o (renamed (entry_at v o) m q) (named-below v o r.named) i z.0
     (λ u e. x.0 (sym e ∙ renamed-parent (entry_at v o) m q r.named)) (λ u e. y.0 (sym e ∙ r.parent))
-apply-elsewhere v (rename o p q (some d) n m) t i h =
+apply-elsewhere v (rename o p q (Some d) n m) t i h =
     let z = member-none i o _ h in
     let y = member-none i p _ z.1 in
     let x = member-none i q _ y.1 in
     let w = member-none i d _ x.1 in
-    let r = rename-there v o p q (some d) n m t in
+    let r = rename-there v o p q (Some d) n m t in
     let k = displaced-there v o p q d n m t in
     let below = named-below v d k.named in
     same-trans

@@ -1,5 +1,5 @@
 -- What the climb from child to parent comes to, step by step. Assumes nothing.
-use Rattle.std.specs.Prelude.{ℕ, zero, suc, ◌-◌, ◌≤◌, ◌<◌, ◌≡◌, refl, List, true, get_or, eqb}
+use Rattle.std.specs.Prelude.{ℕ, zero, suc, ◌≤◌, ◌≡◌, refl, List, true, get_or, eqb}
 use Rattle.std.proofs.Common.{arith, ne_eqb}
 use Rattle.volume_form.specs.Code.Checks.{climbs_by}
 
@@ -10,10 +10,9 @@ root-leads zero l i z = rw z
 root-leads (suc k) l i z = rw z
 
 -- Another number leads to 0 as its parent does in a step less.
-pub parent-leads : (k : ℕ) (l : List ℕ) (i : ℕ) → 0 < k → (i ≡ 0 → ⊥) → climbs_by (k - 1) l (get_or l i 0) ≡ climbs_by k l i
+pub parent-leads : (k m : ℕ) (l : List ℕ) (i : ℕ) → k ≡ suc m → (i ≡ 0 → ⊥) → climbs_by m l (get_or l i 0) ≡ climbs_by k l i
 unfolding climbs_by
-parent-leads zero l i h z = absurd (omega arith)
-parent-leads (suc k) l i h z = let e : suc k - 1 ≡ k = omega arith in rw (e, ne_eqb i 0 z)
+parent-leads k m l i e z = rw (e, ne_eqb i 0 z)
 
 -- With no step left, only 0 has been led to 0.
 pub none_left : (k : ℕ) (l : List ℕ) (i : ℕ) → k ≤ 0 → eqb i 0 ≡ climbs_by k l i

@@ -5,7 +5,7 @@ use Rattle.std.specs.Prelude.{ℕ, zero, suc, ◌*◌, ◌≤◌, ◌<◌, ◌�
 use Rattle.std.proofs.Common.{arith, sym, ap, ◌∙◌, le-leb, leb-true, eq-eqb, ne_eqb, eqb-true}
 use Rattle.std.proofs.Math.Bool.{and-eq-true_iff}
 use Rattle.std.proofs.lemmas.Bool.{false≢true, eqb-false, not-true}
-use Rattle.std.proofs.Math.Option.{Option, none, some}
+use Rattle.std.specs.Prelude.{Option, None, Some}
 use Rattle.buffer.specs.Laws.Test.{or-other}
 use Rattle.names.specs.Name.{permitted_byte, all_permitted, is_dots, good_text, valid_name, lower_case, same_name}
 use Rattle.volume_entry.specs.Entry.{Entry, file, directory, root, is_directory, has_name, name_of, parent_of, contents_of}
@@ -51,63 +51,63 @@ every-not k f i h t = go (every k f) refl
     go false e = e
 
 -- What is found below a bound is found below the next.
-lowest-on : (k : ℕ) (f : ℕ → Bool) (i : ℕ) → lowest k f ≡ some i → lowest (suc k) f ≡ some i
+lowest-on : (k : ℕ) (f : ℕ → Bool) (i : ℕ) → lowest k f ≡ Some i → lowest (suc k) f ≡ Some i
 unfolding lowest
 lowest-on k f i e = rw e
 
 -- If nothing is found below a bound, the bound itself is tested.
-lowest-new : (k : ℕ) (f : ℕ → Bool) (b : Bool) → lowest k f ≡ none → f k ≡ b → lowest (suc k) f ≡ cond b (some k) none
+lowest-new : (k : ℕ) (f : ℕ → Bool) (b : Bool) → lowest k f ≡ None → f k ≡ b → lowest (suc k) f ≡ cond b (Some k) None
 unfolding lowest
 lowest-new k f b e t = rw (e, t)
 
 -- Nothing and something are not the same.
-none-some : (i : ℕ) → ◌≡◌ {A = Option ℕ} none (some i) → ⊥
+none-some : (i : ℕ) → ◌≡◌ {A = Option ℕ} None (Some i) → ⊥
 none-some i e = let y : ◌≡◌ {A = ℕ} 0 1 = cc in omega arith
 
 -- If nothing is found, no number below the bound passes.
-pub lowest-none : (k : ℕ) (f : ℕ → Bool) → lowest k f ≡ none → (i : ℕ) → i < k → f i ≡ false
+pub lowest-none : (k : ℕ) (f : ℕ → Bool) → lowest k f ≡ None → (i : ℕ) → i < k → f i ≡ false
 lowest-none zero f e i h = absurd (omega arith)
 lowest-none (suc k) f e i h = go (lowest k f) (f k) refl refl (lowest-none k f)
   where
-    go : (o : Option ℕ) (b : Bool) → lowest k f ≡ o → f k ≡ b → (lowest k f ≡ none → (j : ℕ) → j < k → f j ≡ false) → f i ≡ false
-    go none true l t ih = absurd (none-some k (sym e ∙ lowest-new k f true l t))
-    go none false l t ih = up_to k f false (ih l) t i h
-    go (some j) b l t ih = absurd (none-some j (sym e ∙ lowest-on k f j l))
+    go : (o : Option ℕ) (b : Bool) → lowest k f ≡ o → f k ≡ b → (lowest k f ≡ None → (j : ℕ) → j < k → f j ≡ false) → f i ≡ false
+    go None true l t ih = absurd (none-some k (sym e ∙ lowest-new k f true l t))
+    go None false l t ih = up_to k f false (ih l) t i h
+    go (Some j) b l t ih = absurd (none-some j (sym e ∙ lowest-on k f j l))
 
 -- What is found lies below the bound and passes, and nothing below it does.
-pub lowest-some : (k : ℕ) (f : ℕ → Bool) (i : ℕ) → lowest k f ≡ some i → (i < k) × (f i ≡ true) × ((j : ℕ) → j < i → f j ≡ false)
+pub lowest-some : (k : ℕ) (f : ℕ → Bool) (i : ℕ) → lowest k f ≡ Some i → (i < k) × (f i ≡ true) × ((j : ℕ) → j < i → f j ≡ false)
 unfolding lowest
 lowest-some zero f i e = absurd (none-some i e)
 lowest-some (suc k) f i e = go (lowest k f) (f k) refl refl (lowest-some k f i)
   where
     go : (o : Option ℕ) (b : Bool) → lowest k f ≡ o → f k ≡ b
-        → (lowest k f ≡ some i → (i < k) × (f i ≡ true) × ((j : ℕ) → j < i → f j ≡ false))
+        → (lowest k f ≡ Some i → (i < k) × (f i ≡ true) × ((j : ℕ) → j < i → f j ≡ false))
         → (i < suc k) × (f i ≡ true) × ((j : ℕ) → j < i → f j ≡ false)
-    go none true l t ih =
-        let z : ◌≡◌ {A = Option ℕ} (some i) (some k) = sym e ∙ lowest-new k f true l t in
+    go None true l t ih =
+        let z : ◌≡◌ {A = Option ℕ} (Some i) (Some k) = sym e ∙ lowest-new k f true l t in
         let q : i ≡ k = cc in
         (omega arith, ap f q ∙ t, λ j h. lowest-none k f l j (omega arith))
-    go none false l t ih = absurd (none-some i (sym (lowest-new k f false l t) ∙ e))
-    go (some j) b l t ih =
-        let z : ◌≡◌ {A = Option ℕ} (some j) (some i) = sym (lowest-on k f j l) ∙ e in
+    go None false l t ih = absurd (none-some i (sym (lowest-new k f false l t) ∙ e))
+    go (Some j) b l t ih =
+        let z : ◌≡◌ {A = Option ℕ} (Some j) (Some i) = sym (lowest-on k f j l) ∙ e in
         let r = ih (l ∙ z) in
         (omega (arith, r.0), r.1, r.2)
 
 -- If no number below a bound passes, nothing is found.
-pub none-lowest : (k : ℕ) (f : ℕ → Bool) → ((i : ℕ) → i < k → f i ≡ false) → lowest k f ≡ none
+pub none-lowest : (k : ℕ) (f : ℕ → Bool) → ((i : ℕ) → i < k → f i ≡ false) → lowest k f ≡ None
 unfolding lowest
 none-lowest zero f h = refl
 none-lowest (suc k) f h = lowest-new k f false (none-lowest k f (λ i l. h i (omega arith))) (h k (omega arith))
 
 -- If a number below a bound passes and no lower one does, it is found.
-pub some-lowest : (k : ℕ) (f : ℕ → Bool) (i : ℕ) → i < k → f i ≡ true → ((j : ℕ) → j < i → f j ≡ false) → lowest k f ≡ some i
+pub some-lowest : (k : ℕ) (f : ℕ → Bool) (i : ℕ) → i < k → f i ≡ true → ((j : ℕ) → j < i → f j ≡ false) → lowest k f ≡ Some i
 some-lowest zero f i h t l = absurd (omega arith)
 some-lowest (suc k) f i h t l = go (eqb i k) refl (λ m. some-lowest k f i m t l)
   where
-    go : (b : Bool) → eqb i k ≡ b → (i < k → lowest k f ≡ some i) → lowest (suc k) f ≡ some i
+    go : (b : Bool) → eqb i k ≡ b → (i < k → lowest k f ≡ Some i) → lowest (suc k) f ≡ Some i
     go true e ih =
         let q : i ≡ k = eqb-true i k e in
-        lowest-new k f true (none-lowest k f (λ j m. l j (omega arith))) (ap f (sym q) ∙ t) ∙ ap some (sym q)
+        lowest-new k f true (none-lowest k f (λ j m. l j (omega arith))) (ap f (sym q) ∙ t) ∙ ap Some (sym q)
     go false e ih = let d = eqb-false i k e in lowest-on k f i (ih (omega arith))
 
 -- What passes the test of the root is a directory with an empty name and parent 0.

@@ -4,7 +4,7 @@ use Rattle.std.specs.Prelude.{ℕ, zero, suc, ◌+◌, ◌*◌, ◌≤◌, ◌<�
 use Rattle.std.proofs.Common.{zero-mul, suc-mul, mul-le-mul_right, arith, sym, ap, ◌∙◌, length-take, length-drop, drop-drop, le-leb, leb-true, eq-eqb, eqb-true}
 use Rattle.std.proofs.Math.Bool.{and-eq-true_iff}
 use Rattle.std.proofs.lemmas.Bool.{false≢true}
-use Rattle.std.proofs.Math.Option.{none, some}
+use Rattle.std.specs.Prelude.{None, Some}
 use Rattle.buffer.specs.Decoded.{is_some}
 use Rattle.volume_entry.specs.Stored.{entry_bytes, same_bytes, read_entry}
 use Rattle.volume_entry.specs.Laws.Entry.{same_bytes-eq, bytes_same}
@@ -78,6 +78,9 @@ is-entry n b s l i h = record { part = refl; size = length_part n b s l i h; tel
 pub entry-long : {n b i : ℕ} {s e : List ℕ} → IsEntry n b s i e → 68 ≤ length e
 entry-long h = omega arith
 
+-- what each function that reads an entry cites
+pub ruleset entries = (entry-long)
+
 -- What is found to be formed is formed.
 pub formed-inv : (n b : ℕ) (s : List ℕ) → formed n b s ≡ true → Formed n b s
 unfolding formed decode_volume
@@ -86,7 +89,7 @@ formed-inv n b s t =
     go (well_formed n b (read_volume n b s)) (same_bytes (encode_volume b (read_volume n b s)) s) refl refl (lent-inv n b s x.0) x.1
   where
     go : (p q : Bool) → well_formed n b (read_volume n b s) ≡ p → same_bytes (encode_volume b (read_volume n b s)) s ≡ q
-        → Lent n b s → is_some (cond (p && q) (some (read_volume n b s)) none) ≡ true → Formed n b s
+        → Lent n b s → is_some (cond (p && q) (Some (read_volume n b s)) None) ≡ true → Formed n b s
     go true true w e l u = record { lent = l; form = w; stored = same_bytes-eq (encode_volume b (read_volume n b s)) s e }
     go true false w e l u = absurd (false≢true u)
     go false q w e l u = absurd (false≢true u)
@@ -104,7 +107,7 @@ unfolding formed
 formed-decode n b s l = rw (lent-intro n b s l)
 
 -- Bytes that are formed are those of the volume that is read from them.
-pub formed-decoded : (n b : ℕ) (s : List ℕ) → Formed n b s → decode_volume n b s ≡ some (read_volume n b s)
+pub formed-decoded : (n b : ℕ) (s : List ℕ) → Formed n b s → decode_volume n b s ≡ Some (read_volume n b s)
 unfolding decode_volume
 formed-decoded n b s f = rw (f.form, f.stored, bytes_same s)
 

@@ -4,7 +4,7 @@ use Rattle.std.specs.Prelude.{ℕ, ◌<◌, ◌≡◌, refl, Bool, true, false, 
 use Rattle.std.proofs.Common.{arith, sym, ap, ◌∙◌, length-set, get_or-set_same, get_or-set_other, ltb-true, ltb-false, eq-eqb, ne_eqb, eqb-true}
 use Rattle.std.proofs.Math.Bool.{and-eq-true_iff}
 use Rattle.std.proofs.lemmas.Bool.{false≢true, eqb-false, not-true}
-use Rattle.std.proofs.Math.Option.{Option, none, some}
+use Rattle.std.specs.Prelude.{Option, None, Some}
 use Rattle.std.proofs.Math.ListN.{get_or-eq_default}
 use Rattle.volume_entry.specs.Laws.Entry.{file-used, directory-used, named-used}
 use Rattle.names.specs.Name.{same_name}
@@ -72,23 +72,23 @@ named-intro v d n i h =
     (child-intro v d i h.other h.named h.parent, h.name)
 
 -- what is found has the name in the directory
-pub search-found : (v : Volume) (d : ℕ) (n : List ℕ) (i : ℕ) → search v d n ≡ some i → (is_named v d n i ≡ true) × (i < length v)
+pub search-found : (v : Volume) (d : ℕ) (n : List ℕ) (i : ℕ) → search v d n ≡ Some i → (is_named v d n i ≡ true) × (i < length v)
 unfolding search
 search-found v d n i e = let r = lowest-some (length v) (is_named v d n) i e in (r.1, r.0)
 
 -- where nothing is found, nothing has the name in the directory
-pub search-none : (v : Volume) (d : ℕ) (n : List ℕ) → search v d n ≡ none → (i : ℕ) → i < length v → is_named v d n i ≡ false
+pub search-none : (v : Volume) (d : ℕ) (n : List ℕ) → search v d n ≡ None → (i : ℕ) → i < length v → is_named v d n i ≡ false
 unfolding search
 search-none v d n e i h = lowest-none (length v) (is_named v d n) e i h
 
 -- where nothing has the name in the directory, nothing is found
-pub none-search : (v : Volume) (d : ℕ) (n : List ℕ) → ((i : ℕ) → i < length v → is_named v d n i ≡ false) → search v d n ≡ none
+pub none-search : (v : Volume) (d : ℕ) (n : List ℕ) → ((i : ℕ) → i < length v → is_named v d n i ≡ false) → search v d n ≡ None
 unfolding search
 none-search v d n h = none-lowest (length v) (is_named v d n) h
 
 -- what has the name in the directory, and nothing before it, is found
 pub search-at : (v : Volume) (d : ℕ) (n : List ℕ) (i : ℕ) → i < length v → is_named v d n i ≡ true → ((j : ℕ) → j < i → is_named v d n j ≡ false)
-    → search v d n ≡ some i
+    → search v d n ≡ Some i
 unfolding search
 search-at v d n i h t l = some-lowest (length v) (is_named v d n) i h t l
 
@@ -97,8 +97,8 @@ pub lowest-same : (k : ℕ) (f g : ℕ → Bool) → ((i : ℕ) → i < k → f 
 lowest-same k f g h = go (lowest k f) refl
   where
     go : (x : Option ℕ) → lowest k f ≡ x → lowest k f ≡ lowest k g
-    go none e = e ∙ sym (none-lowest k g (λ i l. sym (h i l) ∙ lowest-none k f e i l))
-    go (some i) e =
+    go None e = e ∙ sym (none-lowest k g (λ i l. sym (h i l) ∙ lowest-none k f e i l))
+    go (Some i) e =
         let r = lowest-some k f i e in
         let l : i < k = r.0 in
         e ∙ sym (some-lowest k g i l (sym (h i l) ∙ r.1) (λ j m. sym (h j (omega arith)) ∙ r.2 j m))

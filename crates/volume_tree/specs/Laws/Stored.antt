@@ -1,11 +1,12 @@
 -- The bytes of a volume (document 01, "Geometry and stored form"): one stored form for each well-formed volume, and nothing
 -- else is of the right form. All laws hold for every n and b at once.
 -- Assumes nothing.
+use Rattle.std.proofs.lemmas.Option.{same_Some}
 use Rattle.std.specs.Prelude.{ℕ, zero, suc, ◌+◌, ◌*◌, ◌^◌, ◌≤◌, ◌<◌, ◌≡◌, refl, Bool, true, false, not, ◌&&◌, cond, List, [], ◌∷◌, ◌++◌, length, get_or, set, replicate, ltb, eqb}
 use Rattle.std.proofs.Common.{suc-le-suc, zero-mul, suc-mul, arith, sym, ap, ap₂, ◌∙◌, length-append, take_at, drop_at, ltb-true, ltb-false}
 use Rattle.std.proofs.Math.Bool.{and-false}
 use Rattle.std.proofs.lemmas.Bool.{false≢true}
-use Rattle.std.proofs.Math.Option.{none, some, some-injective}
+use Rattle.std.specs.Prelude.{None, Some}
 use Rattle.std.proofs.lemmas.List.{length-replicate, get_or-replicate, replicate-append-replicate}
 use Rattle.std.proofs.Math.ListN.{get_or-eq_default}
 use Rattle.names.specs.Name.{same_name}
@@ -77,22 +78,22 @@ read-good n b v h k w =
     ∙ read-volume b v (good-sized n b v g) (λ i l. let p = parent-below n b v (good-sound n b v g) i in omega arith) (omega arith)
 
 -- The bytes of a well-formed volume are of the right form, and tell of that volume.
-pub decode-encode : (n b : ℕ) (v : Volume) → n ≤ 256 → b ≤ 64 → well_formed n b v ≡ true → decode_volume n b (encode_volume b v) ≡ some v
+pub decode-encode : (n b : ℕ) (v : Volume) → n ≤ 256 → b ≤ 64 → well_formed n b v ≡ true → decode_volume n b (encode_volume b v) ≡ Some v
 unfolding decode_volume
 decode-encode n b v h k w = rw (read-good n b v h k w, w, bytes_same (encode_volume b v))
 
 -- What bytes of the right form tell of is a well-formed volume, and they are its bytes.
-pub encode-decode : (n b : ℕ) (s : List ℕ) (v : Volume) → decode_volume n b s ≡ some v → (well_formed n b v ≡ true) × (encode_volume b v ≡ s)
+pub encode-decode : (n b : ℕ) (s : List ℕ) (v : Volume) → decode_volume n b s ≡ Some v → (well_formed n b v ≡ true) × (encode_volume b v ≡ s)
 unfolding decode_volume
 encode-decode n b s v e = go (well_formed n b x) (same_bytes (encode_volume b x) s) refl refl e
   where
     x : Volume
     x = read_volume n b s
 
-    go : (p q : Bool) → well_formed n b x ≡ p → same_bytes (encode_volume b x) s ≡ q → cond (p && q) (some x) none ≡ some v
+    go : (p q : Bool) → well_formed n b x ≡ p → same_bytes (encode_volume b x) s ≡ q → cond (p && q) (Some x) None ≡ Some v
         → (well_formed n b v ≡ true) × (encode_volume b v ≡ s)
     go true true w t c =
-        let y : x ≡ v = some-injective x v c in
+        let y : x ≡ v = same_Some x v c in
         (ap (well_formed n b) (sym y) ∙ w, ap (encode_volume b) (sym y) ∙ same_bytes-eq (encode_volume b x) s t)
     go true false w t c = let z : ◌≡◌ {A = ℕ} 0 1 = cc in absurd (omega arith)
     go false q w t c = let z : ◌≡◌ {A = ℕ} 0 1 = cc in absurd (omega arith)
@@ -100,13 +101,13 @@ encode-decode n b s v e = go (well_formed n b x) (same_bytes (encode_volume b x)
 -- Two well-formed volumes with equal bytes are equal.
 pub encode_injective : (n b : ℕ) (v u : Volume) → n ≤ 256 → b ≤ 64 → well_formed n b v ≡ true → well_formed n b u ≡ true → encode_volume b v ≡ encode_volume b u → v ≡ u
 encode_injective n b v u h k w x e =
-    some-injective v u (sym (decode-encode n b v h k w) ∙ ap (decode_volume n b) e ∙ decode-encode n b u h k x)
+    same_Some v u (sym (decode-encode n b v h k w) ∙ ap (decode_volume n b) e ∙ decode-encode n b u h k x)
 
 -- Bytes that are not of the right form are those of no well-formed volume.
-pub decode-none : (n b : ℕ) (s : List ℕ) → n ≤ 256 → b ≤ 64 → decode_volume n b s ≡ none
+pub decode-none : (n b : ℕ) (s : List ℕ) → n ≤ 256 → b ≤ 64 → decode_volume n b s ≡ None
     → (v : Volume) → well_formed n b v ≡ true → encode_volume b v ≡ s → ⊥
 decode-none n b s h k e v w t =
-    let x : decode_volume n b s ≡ some v = ap (decode_volume n b) (sym t) ∙ decode-encode n b v h k w in
+    let x : decode_volume n b s ≡ Some v = ap (decode_volume n b) (sym t) ∙ decode-encode n b v h k w in
     let z : ◌≡◌ {A = ℕ} 0 1 = cc in
     omega arith
 
@@ -155,7 +156,7 @@ formatted-good n b h =
     })
 
 -- The bytes of a formatted volume are of the right form, and tell of that volume.
-pub formatted-stored : (n b : ℕ) → 2 ≤ n → n ≤ 256 → b ≤ 64 → decode_volume n b (encode_volume b (formatted n)) ≡ some (formatted n)
+pub formatted-stored : (n b : ℕ) → 2 ≤ n → n ≤ 256 → b ≤ 64 → decode_volume n b (encode_volume b (formatted n)) ≡ Some (formatted n)
 formatted-stored n b h k m = decode-encode n b (formatted n) k m (formatted-good n b h)
 
 -- The bytes of free entries are all zero.

@@ -6,8 +6,8 @@ use Rattle.log_form.proofs.slot.record_formed.Goals as goal
 
 pub slice_bounds-all_zero-count : goal.slice_bounds-all_zero-count
 slice_bounds-all_zero-count c =
-    answered-within c.args.part.now (λ i. (c.type_inv.part i).fits) 0 c.in-Is.w (omega arith) (sym c.in-Is.ensures.value)
+    omega (arith, answered-within c.args.part.now (λ i. (c.type_inv.part i).fits) 0 c.in-Some.w (omega arith) (sym c.in-Some.ensures.value))
 
 pub slice_bounds-all_zero-start : goal.slice_bounds-all_zero-start
 slice_bounds-all_zero-start c =
-    omega (arith, answered-within c.args.part.now (λ i. (c.type_inv.part i).fits) 0 c.in-Is.w (omega arith) (sym c.in-Is.ensures.value))
+    omega (arith, answered-within c.args.part.now (λ i. (c.type_inv.part i).fits) 0 c.in-Some.w (omega arith) (sym c.in-Some.ensures.value))

@@ -1,4 +1,5 @@
 -- `log_form::slot::slot_formed` meets its contract: the front, and then the record's part. Assumes nothing.
+use Rattle.std.specs.Prelude.{None}
 use Prim.Native.Nat.{ℕ}
 use mathlib.Core.Bool.{true, false}
 use mathlib.Core.List.{List}
@@ -8,12 +9,11 @@ use lib.ListN.{get_or}
 use Rattle.record_reader.specs.Code.Reader.{record_at}
 use Rattle.volume_tree.specs.Laws.Answer.{settled}
 use Rattle.log_rules.specs.Stored.{record_part}
-use Rattle.log_form.specs.declared.slot.SlotForm.TheVariants.{Bad}
 use Rattle.log_form.specs.Code.Checks.{front_formed, form_by, slot_form}
 use Rattle.log_form.proofs.slot.slot_formed.Goals as goal
 
 module _ (n b : ℕ) (e : List ℕ) where
-  no_front : front_formed e ≡ false → Bad ≡ slot_form n b e
+  no_front : front_formed e ≡ false → None ≡ slot_form n b e
   unfolding slot_form
   no_front f = rw f
 

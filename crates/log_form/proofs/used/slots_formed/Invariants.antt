@@ -1,6 +1,6 @@
 -- `log_form::used::slots_formed` meets its contract. The loop's invariant: the test of all slots is that of the slots left, behind the last one.
--- The measure is how many slots are left. Assumes nothing.
-use Prim.Native.Nat.{ℕ, ◌*◌, ◌-◌, ◌≤◌}
+-- Assumes nothing.
+use Prim.Native.Nat.{ℕ, ◌*◌, ◌-◌}
 use mathlib.Core.Bool.{Bool, false}
 use mathlib.Core.List.{List}
 use lib.ListN.{drop}
@@ -14,7 +14,4 @@ abbrev pub left : List ℕ → ℕ → ℕ → ℕ → ℕ → ℕ → Bool → 
 left s n b m next last waits i = slots_formed n b next (m - i) last waits (drop (i * slot_bytes) s)
 
 abbrev pub invariant-loop-i : goal.invariant-loop-i
-invariant-loop-i l = (l.i ≤ l.m) × (left l.s l.n l.b l.m l.next l.last l.waits l.i ≡ slots_formed l.n l.b l.next l.m 0 false l.s)
-
-abbrev pub decreases-loop-i : goal.decreases-loop-i
-decreases-loop-i l = l.m - l.i
+invariant-loop-i l = left l.s l.n l.b l.m l.next l.last l.waits l.i ≡ slots_formed l.n l.b l.next l.m 0 false l.s

@@ -1,6 +1,6 @@
 -- `log_touch::set::add_fields` meets its contract. The loop goes from the last field to the first; the invariant: those passed are in
--- the set. The measure is what is left of them. Assumes nothing.
-use Prim.Native.Nat.{ℕ, ◌≤◌}
+-- the set. Assumes nothing.
+use Prim.Native.Nat.{ℕ}
 use mathlib.Core.Path.{◌≡◌}
 use mathlib.Core.List.{List, ◌++◌}
 use lib.ListN.{length, take, drop}
@@ -9,7 +9,4 @@ use Rattle.log_touch.proofs.set.add_fields.Given as goal
 
 abbrev pub invariant-loop-i : goal.invariant-loop-i
 invariant-loop-i l =
-    (l.i ≤ l.count) × (length (take l.count l.fields) ≡ l.count) × ((ops : List ℕ) → Holds l.initial.set ops → Holds l.set (drop l.i (take l.count l.fields) ++ ops))
-
-abbrev pub decreases-loop-i : goal.decreases-loop-i
-decreases-loop-i l = l.i
+    (length (take l.count l.fields) ≡ l.count) × ((ops : List ℕ) → Holds l.initial.set ops → Holds l.set (drop l.i (take l.count l.fields) ++ ops))

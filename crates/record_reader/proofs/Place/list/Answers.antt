@@ -13,24 +13,24 @@ returns-in_default c = rw (← c.stands.ensures, c.if-stands.true, ← c.one.ens
 -- a byte twice fits
 pub overflow_add-count : goal.overflow_add-count
 overflow_add-count c =
-    omega (arith, number-below 1 _ _ _ _ (λ i. omega (arith, c.type_inv.s i)) (sym c.one.ensures ∙ c.in-Number.is))
+    omega (arith, number-below 1 _ _ _ _ (λ i. omega (arith, c.type_inv.s i)) (sym c.one.ensures ∙ c.in-Some.is))
 
 pub returns-in_default-part : goal.returns-in_default-part
 unfolding list_at
 returns-in_default-part c =
-    rw (← c.stands.ensures, c.if-stands.true, ← c.one.ensures, c.in-Number.is, ← c.part.ensures, c.in_default-part.is)
+    rw (← c.stands.ensures, c.if-stands.true, ← c.one.ensures, c.in-Some.is, ← c.part.ensures, c.in_default-part.is)
 
 pub returns-then-good_list : goal.returns-then-good_list
 unfolding list_at
 returns-then-good_list c =
     let g = rw c.stretch_of.ensures at c.good_list.ensures in
-    rw (← c.stands.ensures, c.if-stands.true, ← c.one.ensures, c.in-Number.is, ← c.part.ensures, c.in-Part.is, sym g ∙ c.if-good_list.true)
+    rw (← c.stands.ensures, c.if-stands.true, ← c.one.ensures, c.in-Some.is, ← c.part.ensures, c.in-Some-part.is, sym g ∙ c.if-good_list.true)
 
 pub returns-then-stands : goal.returns-then-stands
 unfolding list_at
 returns-then-stands c =
     let g = rw c.stretch_of.ensures at c.good_list.ensures in
-    rw (← c.stands.ensures, c.if-stands.true, ← c.one.ensures, c.in-Number.is, ← c.part.ensures, c.in-Part.is, sym g ∙ c.if-good_list.false)
+    rw (← c.stands.ensures, c.if-stands.true, ← c.one.ensures, c.in-Some.is, ← c.part.ensures, c.in-Some-part.is, sym g ∙ c.if-good_list.false)
 
 pub returns : goal.returns
 unfolding list_at

@@ -1,7 +1,7 @@
 -- `record_reader::Place::name` meets its contract: the length, the stretch behind it and the test of its text are those of `name_at`.
 -- Assumes nothing.
 use mathlib.Core.Path.{sym, ◌∙◌}
-use Rattle.names.proofs.Laws.Name.{fine-valid, bad-invalid, long-invalid}
+use Rattle.names.proofs.Laws.Name.{fine-valid, error-invalid}
 use Rattle.record_reader.specs.Code.Reader.{name_at}
 use Rattle.record_reader.proofs.Place.name.Goals as goal
 
@@ -12,25 +12,19 @@ returns-in_default c = rw (← c.stands.ensures, c.if-stands.true, ← c.one.ens
 pub returns-in_default-part : goal.returns-in_default-part
 unfolding name_at
 returns-in_default-part c =
-    rw (← c.stands.ensures, c.if-stands.true, ← c.one.ensures, c.in-Number.is, ← c.part.ensures, c.in_default-part.is)
+    rw (← c.stands.ensures, c.if-stands.true, ← c.one.ensures, c.in-Some.is, ← c.part.ensures, c.in_default-part.is)
 
-pub returns-in-Fine : goal.returns-in-Fine
+pub returns-in-Ok : goal.returns-in-Ok
 unfolding name_at
-returns-in-Fine c =
+returns-in-Ok c =
     let g = rw c.stretch_of.ensures at c.name_text.ensures in
-    rw (← c.stands.ensures, c.if-stands.true, ← c.one.ensures, c.in-Number.is, ← c.part.ensures, c.in-Part.is, fine-valid _ (sym g ∙ c.in-Fine.is))
+    rw (← c.stands.ensures, c.if-stands.true, ← c.one.ensures, c.in-Some.is, ← c.part.ensures, c.in-Some-part.is, fine-valid _ (sym g ∙ c.in-Ok.is))
 
-pub returns-in-Bad : goal.returns-in-Bad
+pub returns-in-Err : goal.returns-in-Err
 unfolding name_at
-returns-in-Bad c =
+returns-in-Err c =
     let g = rw c.stretch_of.ensures at c.name_text.ensures in
-    rw (← c.stands.ensures, c.if-stands.true, ← c.one.ensures, c.in-Number.is, ← c.part.ensures, c.in-Part.is, bad-invalid _ (sym g ∙ c.in-Bad.is))
-
-pub returns-in-Long : goal.returns-in-Long
-unfolding name_at
-returns-in-Long c =
-    let g = rw c.stretch_of.ensures at c.name_text.ensures in
-    rw (← c.stands.ensures, c.if-stands.true, ← c.one.ensures, c.in-Number.is, ← c.part.ensures, c.in-Part.is, long-invalid _ (sym g ∙ c.in-Long.is))
+    rw (← c.stands.ensures, c.if-stands.true, ← c.one.ensures, c.in-Some.is, ← c.part.ensures, c.in-Some-part.is, error-invalid _ _ (sym g ∙ c.in-Err.is))
 
 pub returns : goal.returns
 unfolding name_at

@@ -9,9 +9,9 @@ returns-in_default c = rw (← c.name.ensures, c.in_default.is)
 
 pub returns-in_default-name : goal.returns-in_default-name
 unfolding names_at
-returns-in_default-name c = rw (← c.name.ensures, c.in-Part.is, ← c.name-2.ensures, c.in_default-name.is)
+returns-in_default-name c = rw (← c.name.ensures, c.in-Some.is, ← c.name-2.ensures, c.in_default-name.is)
 
 pub returns : goal.returns
 unfolding names_at
 returns c =
-    rw (← c.name.ensures, c.in-Part.is, ← c.name-2.ensures, c.in-Part-name.is)
+    rw (← c.name.ensures, c.in-Some.is, ← c.name-2.ensures, c.in-Some-name.is)

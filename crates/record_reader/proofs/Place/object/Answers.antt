@@ -10,12 +10,12 @@ returns-in_default c = rw (← c.stands.ensures, c.if-stands.true, ← c.two.ens
 pub returns-then-in_limits : goal.returns-then-in_limits
 unfolding object_at
 returns-then-in_limits c =
-    rw (← c.stands.ensures, c.if-stands.true, ← c.two.ensures, c.in-Number.is, ← c.in_limits.ensures, c.if-in_limits.true)
+    rw (← c.stands.ensures, c.if-stands.true, ← c.two.ensures, c.in-Some.is, ← c.in_limits.ensures, c.if-in_limits.true)
 
 pub returns-then-stands : goal.returns-then-stands
 unfolding object_at
 returns-then-stands c =
-    rw (← c.stands.ensures, c.if-stands.true, ← c.two.ensures, c.in-Number.is, ← c.in_limits.ensures, c.if-in_limits.false)
+    rw (← c.stands.ensures, c.if-stands.true, ← c.two.ensures, c.in-Some.is, ← c.in_limits.ensures, c.if-in_limits.false)
 
 pub returns : goal.returns
 unfolding object_at

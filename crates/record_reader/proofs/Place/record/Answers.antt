@@ -9,24 +9,24 @@ returns-in_default c = rw (← c.head.ensures, c.in_default.is)
 
 pub returns-in_default-objects : goal.returns-in_default-objects
 unfolding record_at
-returns-in_default-objects c = rw (← c.head.ensures, c.in-Is.is, ← c.objects.ensures, c.in_default-objects.is)
+returns-in_default-objects c = rw (← c.head.ensures, c.in-Some.is, ← c.objects.ensures, c.in_default-objects.is)
 
 pub returns-in_default-names : goal.returns-in_default-names
 unfolding record_at
 returns-in_default-names c =
-    rw (← c.head.ensures, c.in-Is.is, ← c.objects.ensures, c.in-Are.is, ← c.names.ensures, c.in_default-names.is)
+    rw (← c.head.ensures, c.in-Some.is, ← c.objects.ensures, c.in-Some-objects.is, ← c.names.ensures, c.in_default-names.is)
 
 pub returns-in_default-range : goal.returns-in_default-range
 unfolding record_at
 returns-in_default-range c =
-    rw (← c.head.ensures, c.in-Is.is, ← c.objects.ensures, c.in-Are.is, ← c.names.ensures, c.in-Are-names.is, ← c.range.ensures, c.in_default-range.is)
+    rw (← c.head.ensures, c.in-Some.is, ← c.objects.ensures, c.in-Some-objects.is, ← c.names.ensures, c.in-Some-names.is, ← c.range.ensures, c.in_default-range.is)
 
 pub returns-then-tied : goal.returns-then-tied
 unfolding record_at
 returns-then-tied c =
-    rw (← c.head.ensures, c.in-Is.is, ← c.objects.ensures, c.in-Are.is, ← c.names.ensures, c.in-Are-names.is, ← c.range.ensures, c.in-Are-range.is, ← c.tied.ensures, c.if-tied.true)
+    rw (← c.head.ensures, c.in-Some.is, ← c.objects.ensures, c.in-Some-objects.is, ← c.names.ensures, c.in-Some-names.is, ← c.range.ensures, c.in-Some-range.is, ← c.tied.ensures, c.if-tied.true)
 
 pub returns : goal.returns
 unfolding record_at
 returns c =
-    rw (← c.head.ensures, c.in-Is.is, ← c.objects.ensures, c.in-Are.is, ← c.names.ensures, c.in-Are-names.is, ← c.range.ensures, c.in-Are-range.is, ← c.tied.ensures, c.if-tied.false)
+    rw (← c.head.ensures, c.in-Some.is, ← c.objects.ensures, c.in-Some-objects.is, ← c.names.ensures, c.in-Some-names.is, ← c.range.ensures, c.in-Some-range.is, ← c.tied.ensures, c.if-tied.false)

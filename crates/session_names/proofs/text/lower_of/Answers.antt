@@ -1,28 +1,38 @@
 -- `session_names::text::lower_of` meets its contract. Assumes nothing.
+use mathlib.Core.Path.{sym, ap, ◌∙◌}
 use native.Mathlib.Omega.{arith}
 use borrow.Author.Tests.{le-leb, lt-leb, eq-eqb, ne_eqb}
+use Rattle.returned.specs.Refusal.{refusal_number, number_of}
+use Rattle.returned.specs.Laws.Refusal.{refused-number, refused-some, refused-none, not-refused}
 use Rattle.returned.specs.Returned.{rank_of}
+use Rattle.session.specs.Refusal.{lower}
+use Rattle.session_names.specs.Laws.Row.{lower-second}
 use Rattle.session_names.proofs.text.lower_of.Goals as goal
 
-pub returns-then-first-eq-ACCEPTED : goal.returns-then-first-eq-ACCEPTED
-returns-then-first-eq-ACCEPTED c = let a = c.args in rw (eq-eqb a.first 0 c.if-first-eq-ACCEPTED.true)
+pub returns-in_default-clause-number : goal.returns-in_default-clause-number
+returns-in_default-clause-number g c =
+    let a = c.args in sym (ap (lower (number_of a.first)) (not-refused _ c.in_default.not-Err) ∙ lower-second (number_of a.first))
 
-pub returns-then-second-eq-ACCEPTED : goal.returns-then-second-eq-ACCEPTED
-returns-then-second-eq-ACCEPTED c =
-    let a = c.args in rw (ne_eqb a.first 0 c.if-first-eq-ACCEPTED.false, eq-eqb a.second 0 c.if-second-eq-ACCEPTED.true)
+pub returns-in_default-first-clause-number : goal.returns-in_default-first-clause-number
+returns-in_default-first-clause-number g c =
+    let a = c.args in rw (eq-eqb (number_of a.first) 0 (not-refused _ c.in_default-first.not-Err)) (sym (refused-number c.in-Err.is))
 
-pub returns-then-rank : goal.returns-then-rank
-returns-then-rank c =
+pub returns-then-rank-clause-number : goal.returns-then-rank-clause-number
+returns-then-rank-clause-number g c =
     let a = c.args in
     let x = c.rank.ensures in
     let y = c.rank-2.ensures in
     let z = c.if-rank.true in
-    rw (ne_eqb a.first 0 c.if-first-eq-ACCEPTED.false, ne_eqb a.second 0 c.if-second-eq-ACCEPTED.false, le-leb (rank_of a.first) (rank_of a.second) (omega arith))
+    let p = refused-number c.in-Err-first.is in
+    let q = refused-number c.in-Err.is in
+    rw (ne_eqb (number_of a.first) 0 (refused-some c.in-Err-first.is), ne_eqb (number_of a.second) 0 (refused-some c.in-Err.is), le-leb (rank_of (number_of a.first)) (rank_of (number_of a.second)) (omega arith)) (sym p)
 
-pub returns : goal.returns
-returns c =
+pub returns-clause-number : goal.returns-clause-number
+returns-clause-number g c =
     let a = c.args in
     let x = c.rank.ensures in
     let y = c.rank-2.ensures in
     let z = c.if-rank.false in
-    rw (ne_eqb a.first 0 c.if-first-eq-ACCEPTED.false, ne_eqb a.second 0 c.if-second-eq-ACCEPTED.false, lt-leb (rank_of a.first) (rank_of a.second) (omega arith))
+    let p = refused-number c.in-Err-first.is in
+    let q = refused-number c.in-Err.is in
+    rw (ne_eqb (number_of a.first) 0 (refused-some c.in-Err-first.is), ne_eqb (number_of a.second) 0 (refused-some c.in-Err.is), lt-leb (rank_of (number_of a.first)) (rank_of (number_of a.second)) (omega arith)) (sym q)

@@ -1,4 +1,5 @@
 -- `session_write::write::write_refusal` meets its contract: where the object is a file the range decides. Assumes nothing.
+use Rattle.returned.specs.Laws.Refusal.{refused-number, refused-some, not-refused}
 use mathlib.Core.Path.{◌≡◌, sym, ap, ◌∙◌}
 use mathlib.Core.List.{[], ◌∷◌}
 use lib.ListN.{length}
@@ -11,12 +12,13 @@ use Rattle.session.specs.Edit.{bad_range}
 use Rattle.session_change.specs.Laws.File.{file-refused, range-refused, range-passed}
 use Rattle.session_write.proofs.write.write_refusal.Goals as goal
 
-pub returns-then-refused-ne-ACCEPTED : goal.returns-then-refused-ne-ACCEPTED
-returns-then-refused-ne-ACCEPTED c =
+pub returns-in-Err : goal.returns-in-Err
+returns-in-Err c =
     let a = c.args in
     let v = read_volume a.n a.b a.view.now in
     let bad = bad_range a.b (length (contents_of (entry_at v a.object))) a.offset (length a.«data».now) in
-    file-refused v a.object (row 12 bad ∷ []) c.file_refusal-refused.result c.file_refusal-refused.ensures c.if-refused-ne-ACCEPTED.true
+    sym (refused-number c.in-Err.is)
+    ∙ file-refused v a.object (row 12 bad ∷ []) _ c.file_refusal.ensures (refused-some c.in-Err.is)
 
 pub returns-then-bad_range : goal.returns-then-bad_range
 returns-then-bad_range c =
@@ -25,7 +27,7 @@ returns-then-bad_range c =
     let bad = bad_range a.b (length (contents_of (entry_at v a.object))) a.offset (length a.«data».now) in
     -- the test of the range, in the volume's own terms
     let told : c.bad_range.result ≡ bad = c.bad_range.ensures ∙ ap (λ (k : ℕ). bad_range a.b k a.offset (length a.«data».now)) c.length_of-len.ensures in
-    range-refused v a.object bad (sym c.if-refused-ne-ACCEPTED.false ∙ c.file_refusal-refused.ensures) (sym told ∙ c.if-bad_range.true)
+    range-refused v a.object bad (sym (not-refused _ c.in_default.not-Err) ∙ c.file_refusal.ensures) (sym told ∙ c.if-bad_range.true)
 
 pub returns : goal.returns
 returns c =
@@ -33,4 +35,4 @@ returns c =
     let v = read_volume a.n a.b a.view.now in
     let bad = bad_range a.b (length (contents_of (entry_at v a.object))) a.offset (length a.«data».now) in
     let told : c.bad_range.result ≡ bad = c.bad_range.ensures ∙ ap (λ (k : ℕ). bad_range a.b k a.offset (length a.«data».now)) c.length_of-len.ensures in
-    range-passed v a.object bad (sym c.if-refused-ne-ACCEPTED.false ∙ c.file_refusal-refused.ensures) (sym told ∙ c.if-bad_range.false)
+    range-passed v a.object bad (sym (not-refused _ c.in_default.not-Err) ∙ c.file_refusal.ensures) (sym told ∙ c.if-bad_range.false)

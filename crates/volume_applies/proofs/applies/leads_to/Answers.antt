@@ -1,13 +1,12 @@
 -- `volume_applies::applies::leads_to` meets its contract: a name leads nowhere but from a directory, and there to what the search finds.
 -- Assumes nothing.
+use Rattle.std.specs.Prelude.{None, Some}
 use Prim.Native.Nat.{ℕ}
 use mathlib.Core.Bool.{true, false}
 use mathlib.Core.List.{List}
 use mathlib.Core.Path.{◌≡◌}
 use lib.Dec.{eqb}
 use Rattle.volume_entry.specs.Entry.{is_directory}
-use Rattle.volume_tree.specs.declared.search.Found.TheVariants.{At, Nothing}
-use Rattle.volume_tree.specs.Answer.{found_of}
 use Rattle.volume_tree.specs.Laws.Answer.{settled, of_entry, found_at, found_nothing}
 use Rattle.volume_apply.specs.Apply.{leads}
 use Rattle.volume_tree.specs.Volume.{Volume, entry_at, search as sought}
@@ -16,10 +15,10 @@ use Rattle.volume_tree.specs.Laws.Lent.{entry-long}
 use Rattle.volume_applies.proofs.applies.leads_to.Goals as goal
 
 module _ (v : Volume) (d : ℕ) (m : List ℕ) (o : ℕ) where
-  found : is_directory (entry_at v d) ≡ true → (i : ℕ) → At i ≡ found_of (sought v d m) → eqb i o ≡ leads v d m o
+  found : is_directory (entry_at v d) ≡ true → (i : ℕ) → Some i ≡ ((sought v d m)) → eqb i o ≡ leads v d m o
   found e i a = rw (e, found_at (sought v d m) i a)
 
-  absent : is_directory (entry_at v d) ≡ true → Nothing ≡ found_of (sought v d m) → false ≡ leads v d m o
+  absent : is_directory (entry_at v d) ≡ true → None ≡ ((sought v d m)) → false ≡ leads v d m o
   absent e a = rw (e, found_nothing (sought v d m) a)
 
   other : is_directory (entry_at v d) ≡ false → false ≡ leads v d m o
@@ -34,19 +33,19 @@ is_directory-requires c = entry-long c.entry.ensures
 pub search-requires : goal.search-requires
 search-requires c = c.requires.lent
 
-pub returns-in-At : goal.returns-in-At
-returns-in-At c =
+pub returns-in-Some : goal.returns-in-Some
+returns-in-Some c =
     let a = c.args in
     let v = read_volume a.n a.b a.s.now in
     found v a.d a.name.now a.o (settled (of_entry is_directory c.entry.ensures c.is_directory.ensures) c.if-is_directory.true)
-    c.in-At.i c.in-At.ensures
+    c.in-Some.i c.in-Some.ensures
 
-pub returns-in-Nothing : goal.returns-in-Nothing
-returns-in-Nothing c =
+pub returns-in-None : goal.returns-in-None
+returns-in-None c =
     let a = c.args in
     let v = read_volume a.n a.b a.s.now in
     absent v a.d a.name.now a.o (settled (of_entry is_directory c.entry.ensures c.is_directory.ensures) c.if-is_directory.true)
-    c.in-Nothing.ensures
+    c.in-None.ensures
 
 pub returns : goal.returns
 returns c =

@@ -11,7 +11,7 @@ use Rattle.volume_unique.specs.Laws.Loop.{gather-next, gather-ended}
 use Rattle.volume_form.proofs.parents.parents_of.Goals as goal
 
 pub loop-i-init : goal.loop-i-init
-loop-i-init c = (omega arith, refl, (λ j h. absurd (omega arith), λ j h. zeros-at 256 j))
+loop-i-init c = (refl, (λ j h. absurd (omega arith), λ j h. zeros-at 256 j))
 
 pub entry-requires : goal.entry-requires
 entry-requires c = record { lent = c.requires; i_lt_n = omega arith }
@@ -21,13 +21,12 @@ loop-i-preserved c =
     let a = c.args in
     let v = read_volume a.n a.b a.s.now in
     let p = c.loop-i.parents in (
-      omega arith,
-      length-set p c.loop-i.i c.parent.result ∙ c.loop-i.invariant.1,
-      gather-next parent_of v c.loop-i.i p c.loop-i.invariant.2 (omega arith) c.parent.result (c.parent.ensures.0 ∙ ap parent_of c.entry.ensures.tells),
+      length-set p c.loop-i.i c.parent.result ∙ c.loop-i.invariant.0,
+      gather-next parent_of v c.loop-i.i p c.loop-i.invariant.1 (omega arith) c.parent.result (c.parent.ensures.0 ∙ ap parent_of c.entry.ensures.tells),
     )
 
 pub returns : goal.returns
 returns c =
     let a = c.args in
-    gather-ended parent_of (read_volume a.n a.b a.s.now) c.loop-i.i c.loop-i.parents c.loop-i.invariant.2 refl
+    gather-ended parent_of (read_volume a.n a.b a.s.now) c.loop-i.i c.loop-i.parents c.loop-i.invariant.1 refl
     (omega (arith, length-read a.n a.b a.s.now))

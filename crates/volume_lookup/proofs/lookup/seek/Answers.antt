@@ -1,35 +1,33 @@
 -- `volume_lookup::lookup::seek` meets its contract: the text, the kind of the object and the search settle the answer of `component_answer`.
 -- Assumes nothing.
+use Rattle.volume_lookup.specs.declared.lookup.LookupError.TheVariants.{NoObject, WrongKind}
+use Rattle.std.specs.Prelude.{None, Some, Ok, Err}
 use Prim.Native.Nat.{ℕ}
 use mathlib.Core.Bool.{Bool, true, false}
 use mathlib.Core.List.{List}
 use mathlib.Core.Path.{◌≡◌, sym}
-use Rattle.names.specs.declared.NameText.TheVariants.{Fine}
 use Rattle.names.specs.Name.{name_text_of}
 use Rattle.volume_entry.specs.Entry.{Entry, is_directory}
 use Rattle.volume_entry.specs.Stored.{read_entry}
-use Rattle.volume_tree.specs.declared.search.Found.TheVariants.{At, Nothing}
 use Rattle.volume_tree.specs.Volume.{Volume, entry_at, search as search_in}
 use Rattle.volume_tree.specs.Stored.{read_volume}
 use Rattle.volume_tree.specs.Laws.Lent.{entry-long}
-use Rattle.volume_tree.specs.Answer.{found_of}
 use Rattle.volume_tree.specs.Laws.Answer.{found_at, found_nothing}
-use Rattle.volume_lookup.specs.declared.lookup.Reached.TheVariants.{Found, NoObject, WrongKind}
 use Rattle.volume_lookup.specs.Lookup.{component_answer}
 use Rattle.volume_lookup.proofs.lookup.seek.Goals as goal
 
 -- the answer to a text that is fine, in an object that is a directory or not
-module _ (v : Volume) (o : ℕ) (c : List ℕ) (t : name_text_of c ≡ Fine) (e : Entry) (q : e ≡ entry_at v o) (d : Bool) (k : d ≡ is_directory e) where
+module _ (v : Volume) (o : ℕ) (c : List ℕ) (t : name_text_of c ≡ Ok tt) (e : Entry) (q : e ≡ entry_at v o) (d : Bool) (k : d ≡ is_directory e) where
   module _ (y : d ≡ true) where
-    there : (i : ℕ) → At i ≡ found_of (search_in v o c) → Found i ≡ component_answer v o c
+    there : (i : ℕ) → Some i ≡ ((search_in v o c)) → Ok i ≡ component_answer v o c
     unfolding component_answer
     there i f = rw (t, ← q, ← k, y, found_at (search_in v o c) i f)
 
-    nowhere : Nothing ≡ found_of (search_in v o c) → NoObject ≡ component_answer v o c
+    nowhere : None ≡ ((search_in v o c)) → Err NoObject ≡ component_answer v o c
     unfolding component_answer
     nowhere f = rw (t, ← q, ← k, y, found_nothing (search_in v o c) f)
 
-  no-directory : d ≡ false → WrongKind ≡ component_answer v o c
+  no-directory : d ≡ false → Err WrongKind ≡ component_answer v o c
   unfolding component_answer
   no-directory y = rw (t, ← q, ← k, y)
 
@@ -43,33 +41,33 @@ pub search-requires : goal.search-requires
 search-requires c =
     c.requires.lent
 
-pub returns-in-Bad : goal.returns-in-Bad
+pub returns-in-Err-Bad : goal.returns-in-Err-Bad
 unfolding component_answer
-returns-in-Bad c = rw (sym c.in-Bad.ensures)
+returns-in-Err-Bad c = rw (sym c.name_text.ensures, c.in-Err-Bad.is, c.in-Err-Bad.field-0-is)
 
-pub returns-in-Long : goal.returns-in-Long
+pub returns-in-Err-Long : goal.returns-in-Err-Long
 unfolding component_answer
-returns-in-Long c = rw (sym c.in-Long.ensures)
+returns-in-Err-Long c = rw (sym c.name_text.ensures, c.in-Err-Long.is, c.in-Err-Long.field-0-is)
 
-pub returns-in-At : goal.returns-in-At
-returns-in-At c =
+pub returns-in-Some : goal.returns-in-Some
+returns-in-Some c =
     let a = c.args in
-    there (read_volume a.n a.b a.s.now) a.o a.text.now (sym c.in-Fine.ensures)
+    there (read_volume a.n a.b a.s.now) a.o a.text.now (sym c.in-Ok.ensures)
     (read_entry c.entry.result.now) c.entry.ensures.tells
     c.is_directory.result c.is_directory.ensures c.if-is_directory.true
-    c.in-At.i c.in-At.ensures
+    c.in-Some.i c.in-Some.ensures
 
-pub returns-in-Nothing : goal.returns-in-Nothing
-returns-in-Nothing c =
+pub returns-in-None : goal.returns-in-None
+returns-in-None c =
     let a = c.args in
-    nowhere (read_volume a.n a.b a.s.now) a.o a.text.now (sym c.in-Fine.ensures)
+    nowhere (read_volume a.n a.b a.s.now) a.o a.text.now (sym c.in-Ok.ensures)
     (read_entry c.entry.result.now) c.entry.ensures.tells
     c.is_directory.result c.is_directory.ensures c.if-is_directory.true
-    c.in-Nothing.ensures
+    c.in-None.ensures
 
 pub returns-else-is_directory : goal.returns-else-is_directory
 returns-else-is_directory c =
     let a = c.args in
-    no-directory (read_volume a.n a.b a.s.now) a.o a.text.now (sym c.in-Fine.ensures)
+    no-directory (read_volume a.n a.b a.s.now) a.o a.text.now (sym c.in-Ok.ensures)
     (read_entry c.entry.result.now) c.entry.ensures.tells
     c.is_directory.result c.is_directory.ensures c.if-is_directory.false

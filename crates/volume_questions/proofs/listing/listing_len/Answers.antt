@@ -18,16 +18,15 @@ next : (v : Volume) (d i : ℕ) (l k : ℕ) → l ≡ length (listing v d i) →
 next v d i l k e q = rw (listing-next, length-append, e, q)
 
 pub loop-i-init : goal.loop-i-init
-loop-i-init c = let a = c.args in (omega arith, none (read_volume a.n a.b a.s.now) a.d, omega arith)
+loop-i-init c = let a = c.args in (none (read_volume a.n a.b a.s.now) a.d, omega arith)
 
 pub listed_len-len-requires : goal.listed_len-len-requires
-listed_len-len-requires c = record { lent = c.requires; i_lt_n = c.loop-i-test.true }
+listed_len-len-requires c = record { lent = c.requires; i_lt_n = omega arith }
 
 pub loop-i-preserved : goal.loop-i-preserved
 loop-i-preserved c =
     let a = c.args in (
-      omega arith,
-      next (read_volume a.n a.b a.s.now) a.d c.loop-i.i c.loop-i.len c.listed_len-len.result c.loop-i.invariant.1 c.listed_len-len.ensures.0,
+      next (read_volume a.n a.b a.s.now) a.d c.loop-i.i c.loop-i.len c.listed_len-len.result c.loop-i.invariant.0 c.listed_len-len.ensures.0,
       omega arith,
     )
 
@@ -35,4 +34,4 @@ pub returns : goal.returns
 returns c =
     let a = c.args in
     let e : c.loop-i.i ≡ a.n = omega arith in
-    c.loop-i.invariant.1 ∙ ap (λ (k : ℕ). length (listing (read_volume a.n a.b a.s.now) a.d k)) e
+    c.loop-i.invariant.0 ∙ ap (λ (k : ℕ). length (listing (read_volume a.n a.b a.s.now) a.d k)) e

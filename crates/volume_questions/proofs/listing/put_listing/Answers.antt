@@ -22,27 +22,27 @@ next v d i e h = rw listing-next (put_then e h)
 pub loop-i-init : goal.loop-i-init
 loop-i-init c =
     let a = c.args in
-    (omega arith, none (read_volume a.n a.b a.s.now) a.d a.buf.now, refl)
+    (none (read_volume a.n a.b a.s.now) a.d a.buf.now, refl)
 
 pub put_listed-at-requires : goal.put_listed-at-requires
 put_listed-at-requires c =
     let a = c.args in
     record {
       lent = c.requires.lent;
-      i_lt_n = c.loop-i-test.true;
-      i_in_bounds = omega (arith, c.requires.n_in_bounds, c.loop-i.invariant.1.ends, listing-within (read_volume a.n a.b a.s.now) a.d c.loop-i.i a.n (omega arith));
+      i_lt_n = omega arith;
+      i_in_bounds = omega (arith, c.requires.n_in_bounds, c.loop-i.invariant.0.ends, listing-within (read_volume a.n a.b a.s.now) a.d c.loop-i.i a.n (omega arith));
     }
 
 pub loop-i-preserved : goal.loop-i-preserved
 loop-i-preserved c =
     let a = c.args in
-    (omega arith, next (read_volume a.n a.b a.s.now) a.d c.loop-i.i c.loop-i.invariant.1 c.put_listed-at.ensures, omega arith)
+    (next (read_volume a.n a.b a.s.now) a.d c.loop-i.i c.loop-i.invariant.0 c.put_listed-at.ensures, omega arith)
 
 pub shape_of-buf : goal.shape_of-buf
-shape_of-buf c = c.loop-i.invariant.2
+shape_of-buf c = c.loop-i.invariant.1
 
 pub returns : goal.returns
 returns c =
     let a = c.args in
     let e : c.loop-i.i ≡ a.n = omega arith in
-    subst (λ (k : ℕ). Put (listing (read_volume a.n a.b a.s.now) a.d k) 0 a.buf.now c.loop-i.buf c.loop-i.at) e c.loop-i.invariant.1
+    subst (λ (k : ℕ). Put (listing (read_volume a.n a.b a.s.now) a.d k) 0 a.buf.now c.loop-i.buf c.loop-i.at) e c.loop-i.invariant.0

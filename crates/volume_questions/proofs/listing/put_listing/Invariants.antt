@@ -1,6 +1,5 @@
 -- `volume_questions::listing::put_listing` meets its contract. The loop's invariant: the listing of the entries passed is put at the start.
 -- Assumes nothing.
-use Prim.Native.Nat.{◌≤◌, ◌-◌}
 use mathlib.Core.Path.{◌≡◌}
 use lib.ListN.{length}
 use Rattle.buffer.specs.Patch.{Put}
@@ -10,7 +9,4 @@ use Rattle.volume_questions.proofs.listing.put_listing.Given as goal
 
 abbrev pub invariant-loop-i : goal.invariant-loop-i
 invariant-loop-i l =
-    (l.i ≤ l.n) × Put (listing (read_volume l.n l.b l.s) l.d l.i) 0 l.initial.buf l.buf l.at × (length l.buf ≡ length l.initial.buf)
-
-abbrev pub decreases-loop-i : goal.decreases-loop-i
-decreases-loop-i l = l.n - l.i
+    Put (listing (read_volume l.n l.b l.s) l.d l.i) 0 l.initial.buf l.buf l.at × (length l.buf ≡ length l.initial.buf)

@@ -1,5 +1,7 @@
 -- `volume_questions::object::object_at` meets its contract: the tests before each return settle what the number names.
 -- Assumes nothing.
+use Rattle.std.specs.Prelude.{Ok, Err}
+use Rattle.volume_questions.specs.declared.object.ObjectError.TheVariants.{BadNumber, NoObject}
 use Prim.Native.Nat.{ℕ, ◌≤◌, ◌<◌}
 use mathlib.Core.List.{List}
 use mathlib.Core.Bool.{Bool, true, false, cond}
@@ -9,23 +11,23 @@ use Rattle.volume_tree.specs.Volume.{entry_at}
 use Rattle.volume_tree.specs.Stored.{read_volume}
 use Rattle.volume_tree.specs.Laws.Lent.{length-read, entry-long}
 use Rattle.volume_tree.specs.Laws.Answer.{settled, of_entry}
-use Rattle.volume_questions.specs.declared.object.Object.TheVariants.{File, Directory, BadNumber, Free}
+use Rattle.volume_questions.specs.declared.object.ObjectKind.TheVariants.{File, Directory}
 use Rattle.volume_questions.specs.Answer.{object_of, object_answer}
 use Rattle.volume_questions.specs.Laws.Answer.{object-past, object-in}
 use Rattle.volume_questions.proofs.object.object_at.Goals as goal
 
 module _ (n b : ℕ) (s : List ℕ) (o : ℕ) where
-  past : n ≤ o → BadNumber ≡ object_answer (read_volume n b s) o
+  past : n ≤ o → Err BadNumber ≡ object_answer (read_volume n b s) o
   past h = sym (object-past (read_volume n b s) o (rw (length-read n b s) h))
 
   module _ (h : o < n) where
     within : object_of (entry_at (read_volume n b s) o) ≡ object_answer (read_volume n b s) o
     within = sym (object-in (read_volume n b s) o (rw (length-read n b s) h))
 
-    used : is_used (entry_at (read_volume n b s) o) ≡ true → (t : Bool) → is_file (entry_at (read_volume n b s) o) ≡ t → cond t File Directory ≡ object_answer (read_volume n b s) o
+    used : is_used (entry_at (read_volume n b s) o) ≡ true → (t : Bool) → is_file (entry_at (read_volume n b s) o) ≡ t → cond t (Ok File) (Ok Directory) ≡ object_answer (read_volume n b s) o
     used u t f = rw (u, f) at within
 
-    unused : is_used (entry_at (read_volume n b s) o) ≡ false → Free ≡ object_answer (read_volume n b s) o
+    unused : is_used (entry_at (read_volume n b s) o) ≡ false → Err NoObject ≡ object_answer (read_volume n b s) o
     unused u = rw u at within
 
 pub returns-then-n-o : goal.returns-then-n-o

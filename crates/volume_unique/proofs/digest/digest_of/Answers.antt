@@ -21,13 +21,13 @@ module _ (s : List ℕ) (i m : ℕ) (inv : digest_from m (map (λ v. v % 32) (dr
   ended h = rw (drop_of_length-le s h) at inv
 
 pub loop-i-init : goal.loop-i-init
-loop-i-init c = (omega arith, refl)
+loop-i-init c = refl
 
 pub loop-i-preserved : goal.loop-i-preserved
 loop-i-preserved c =
     let s = c.args.name.now in
-    (omega arith, step s c.loop-i.i c.loop-i.seen c.loop-i.invariant.1 (omega arith) c.byte_at.result c.byte_at.ensures.0)
+    step s c.loop-i.i c.loop-i.seen c.loop-i.invariant (omega arith) c.byte_at.result c.byte_at.ensures.0
 
 pub returns : goal.returns
 returns c =
-    ended c.args.name.now c.loop-i.i c.loop-i.seen c.loop-i.invariant.1 (omega arith)
+    ended c.args.name.now c.loop-i.i c.loop-i.seen c.loop-i.invariant (omega arith)

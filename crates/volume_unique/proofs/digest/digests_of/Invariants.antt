@@ -1,6 +1,5 @@
 -- `volume_unique::digest::digests_of` meets its contract. The loop's invariant: the digests of the entries passed are gathered, and 0 stands
 -- behind them. Assumes nothing.
-use Prim.Native.Nat.{◌-◌, ◌≤◌}
 use mathlib.Core.Path.{◌≡◌}
 use lib.ListN.{length}
 use Rattle.volume_entry.specs.Entry.{name_of}
@@ -11,7 +10,4 @@ use Rattle.volume_unique.proofs.digest.digests_of.Given as goal
 
 abbrev pub invariant-loop-i : goal.invariant-loop-i
 invariant-loop-i l =
-    (l.i ≤ l.n) × (length l.digests ≡ 256) × Passed (λ e. digest (name_of e)) (read_volume l.n l.b l.s) l.i l.digests
-
-abbrev pub decreases-loop-i : goal.decreases-loop-i
-decreases-loop-i l = l.n - l.i
+    (length l.digests ≡ 256) × Passed (λ e. digest (name_of e)) (read_volume l.n l.b l.s) l.i l.digests

@@ -30,7 +30,7 @@ is_child-requires c = record { lent = c.requires.lent; i_lt_n = omega arith }
 pub loop-j-init : goal.loop-j-init
 loop-j-init c =
     let a = c.args in
-    (omega arith, omega arith, first (read_volume a.n a.b a.s.now) a.i)
+    first (read_volume a.n a.b a.s.now) a.i
 
 pub are_twins-requires : goal.are_twins-requires
 are_twins-requires c =
@@ -47,21 +47,21 @@ returns-then-are_twins c =
     let a = c.args in
     let v = read_volume a.n a.b a.s.now in
     stopped (length v) a.n (test v a.i) (length-read a.n a.b a.s.now) c.loop-j.j (omega arith)
-    (later v a.i c.loop-j.j c.loop-j.invariant.0 true (settled c.if-are_twins.true c.are_twins.ensures))
+    (later v a.i c.loop-j.j (omega arith) true (settled c.if-are_twins.true c.are_twins.ensures))
 
 pub loop-j-preserved : goal.loop-j-preserved
 loop-j-preserved c =
     let a = c.args in
     let v = read_volume a.n a.b a.s.now in
-    let t = later v a.i c.loop-j.j c.loop-j.invariant.0 false (settled c.if-are_twins.false c.are_twins.ensures) in
-    (omega arith, omega arith, below_more _ c.loop-j.j c.loop-j.invariant.2 t)
+    let t = later v a.i c.loop-j.j (omega arith) false (settled c.if-are_twins.false c.are_twins.ensures) in
+    below_more _ c.loop-j.j c.loop-j.invariant t
 
 pub returns-after-loop-j : goal.returns-after-loop-j
 unfolding alone_from
 returns-after-loop-j c =
     let a = c.args in
     let v = read_volume a.n a.b a.s.now in
-    passed (length v) a.n (test v a.i) (length-read a.n a.b a.s.now) c.loop-j.j (omega arith) c.loop-j.invariant.2
+    passed (length v) a.n (test v a.i) (length-read a.n a.b a.s.now) c.loop-j.j (omega arith) c.loop-j.invariant
 
 pub returns-else-is_child : goal.returns-else-is_child
 returns-else-is_child c =

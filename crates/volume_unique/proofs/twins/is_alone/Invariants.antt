@@ -1,6 +1,6 @@
 -- `volume_unique::twins::is_alone` meets its contract. The loop's invariant: no entry passed behind the given one shares parent and name with it.
 -- Assumes nothing.
-use Prim.Native.Nat.{ℕ, ◌-◌, ◌≤◌, ◌<◌}
+use Prim.Native.Nat.{ℕ, ◌<◌}
 use mathlib.Core.Bool.{Bool, true, not, ◌||◌}
 use mathlib.Core.Path.{◌≡◌}
 use lib.Dec.{leb}
@@ -14,7 +14,4 @@ abbrev pub test : Volume → ℕ → ℕ → Bool
 test v i j = leb j i || not (twins v i j)
 
 abbrev pub invariant-loop-j : goal.invariant-loop-j
-invariant-loop-j l = (l.i < l.j) × (l.j ≤ l.n) × ((k : ℕ) → k < l.j → test (read_volume l.n l.b l.s) l.i k ≡ true)
-
-abbrev pub decreases-loop-j : goal.decreases-loop-j
-decreases-loop-j l = l.n - l.j
+invariant-loop-j l = (k : ℕ) → k < l.j → test (read_volume l.n l.b l.s) l.i k ≡ true

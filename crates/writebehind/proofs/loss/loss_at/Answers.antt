@@ -3,12 +3,12 @@ use mathlib.Core.Path.{◌∙◌}
 use Rattle.writebehind.specs.Laws.Loss.{read-loss}
 use Rattle.writebehind.proofs.loss.loss_at.Goals as goal
 
-pub returns-in-Is : goal.returns-in-Is
-returns-in-Is c =
+pub returns-in-Some : goal.returns-in-Some
+returns-in-Some c =
     let a = c.args in
-    c.loss_in.ensures ∙ read-loss a.buffer.now a.at _ c.in-Is.ensures.exact
+    c.loss_in.ensures ∙ read-loss a.buffer.now a.at _ c.in-Some.ensures.exact
 
-pub returns-in-Bad : goal.returns-in-Bad
-returns-in-Bad c =
+pub returns-in-None : goal.returns-in-None
+returns-in-None c =
     let a = c.args in
-    c.no_loss.ensures ∙ read-loss a.buffer.now a.at _ c.in-Bad.ensures.exact
+    c.no_loss.ensures ∙ read-loss a.buffer.now a.at _ c.in-None.ensures.exact

@@ -1,8 +1,9 @@
 -- `record::kind::Kind::of_code` meets its contract: each arm is one code, and the last one none of them.
 -- Assumes nothing.
+use Rattle.record.specs.declared.kind.Kind.{Kind}
+use Rattle.std.specs.Prelude.{None}
 use Rattle.std.proofs.Common.{◌≡◌, ℕ, arith, ne_eqb}
 use Rattle.record.specs.Kind.{kind_of_code}
-use Rattle.record.specs.declared.kind.Coded.TheVariants.{Unknown}
 use Rattle.record.proofs.kind.Kind.of_code.Goals as goal
 
 pub returns-in-1 : goal.returns-in-1
@@ -39,7 +40,7 @@ returns-in-8 c = rw c.in-8.is
 
 -- A number that is none of the codes stands for no kind.
 no-code : (n : ℕ) → (n ≡ 1 → ⊥) → (n ≡ 2 → ⊥) → (n ≡ 3 → ⊥) → (n ≡ 4 → ⊥) → (n ≡ 5 → ⊥) → (n ≡ 6 → ⊥) → (n ≡ 7 → ⊥) → (n ≡ 8 → ⊥)
-    → Unknown ≡ kind_of_code n
+    → None ≡ kind_of_code n
 unfolding kind_of_code
 no-code n a b c d e f g h =
     rw (ne_eqb n 1 a, ne_eqb n 2 b, ne_eqb n 3 c, ne_eqb n 4 d, ne_eqb n 5 e, ne_eqb n 6 f, ne_eqb n 7 g, ne_eqb n 8 h)
