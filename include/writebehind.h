@@ -92,7 +92,7 @@ extern "C" {
 #define WB_LIST_OBJECTS 8               /* the most objects of a forder */
 #define WB_RECORD_BYTES 1040            /* the longest loss record; the least buffer for wb_take */
 #define WB_LAST_SEQUENCE 4294967294     /* the greatest sequence number */
-#define WB_STACK_BYTES 40960            /* the most that a call takes; measured: 13,808 (host/stack) */
+#define WB_STACK_BYTES 40960            /* the most that a call takes; measured: 13,160 (host/stack) */
 
 /* The stored form: a volume is n entries, a log is a head and m slots. The bytes of a field stand in brackets. */
 #define WB_ENTRY_HEAD_BYTES 68  /* an entry up to its data: kind (1), name length (1), parent (2), name (60), file length (4) */
