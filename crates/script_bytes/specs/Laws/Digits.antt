@@ -1,5 +1,5 @@
 -- Bytes read from digits, two a byte, and why some digits are refused.
-use Rattle.std.specs.Prelude.{ℕ, zero, suc, ◌+◌, ◌*◌, ◌/◌, ◌%◌, ◌≤◌, ◌<◌, ◌≡◌, refl, List, [], ◌∷◌, ◌++◌, length, get_or, take, set}
+use Rattle.std.specs.Prelude.{ℕ, suc, ◌+◌, ◌*◌, ◌/◌, ◌%◌, ◌≤◌, ◌<◌, ◌≡◌, refl, List, [], ◌∷◌, ◌++◌, length, get_or, take, set}
 use Rattle.std.proofs.Common.{add-one, arith, sym, ap, ◌∙◌, append_assoc, take-suc, take-suc-set, take_all}
 use Rattle.buffer.specs.Numeral.{Bytes as AllBytes}
 use Rattle.script_bytes.specs.Bytes.{hex_digit, hex}

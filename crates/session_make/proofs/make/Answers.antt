@@ -1,6 +1,6 @@
 -- `session_make::make` meets its contract. Assumes nothing.
 use Rattle.returned.specs.Refusal.{number_of}
-use Rattle.returned.specs.Laws.Refusal.{refused-number, refused-some, not-refused}
+use Rattle.returned.specs.Laws.Refusal.{not-refused}
 use native.Mathlib.Omega.{arith}
 use mathlib.Core.Path.{sym, ◌∙◌}
 use Rattle.log_rules.specs.Stored.{read_log}

@@ -1,6 +1,6 @@
 -- `session_remove::remove` meets its contract. Assumes nothing.
 use Rattle.returned.specs.Refusal.{number_of}
-use Rattle.returned.specs.Laws.Refusal.{refused-number, refused-some, refused-none, accepted-number, not-refused}
+use Rattle.returned.specs.Laws.Refusal.{accepted-number, not-refused}
 use native.Mathlib.Omega.{arith}
 use mathlib.Core.Path.{refl, sym, ◌∙◌}
 use Rattle.record.specs.Operation.{Operation}
@@ -9,7 +9,7 @@ use Rattle.session.specs.Model.{told_of}
 use Rattle.session.specs.Call.{geometry, buffers, issuer}
 use Rattle.session_admission.specs.Code.Admitted.{model_in}
 use Rattle.session_admission.specs.Laws.Admitted.{admitted}
-use Rattle.session_change.specs.Laws.Change.{lent-refuses, change-refuses, change-accepted, change-own}
+use Rattle.session_change.specs.Laws.Change.{lent-refuses, change-refuses, change-accepted}
 use Rattle.session_change.specs.Laws.Issued.{issuing-room, issuing-able, issued-outcome}
 use Rattle.session_remove.specs.Code.Remove.{remove_change}
 use Rattle.session_remove.specs.Laws.Call.{remove-change, remove-issues, remove-issuing, remove-record}

@@ -5,8 +5,7 @@ use Rattle.volume_tree.specs.Laws.Lent.{length-read}
 use Rattle.session_names.specs.Laws.Row.{found-object}
 use Rattle.session_remove.specs.Code.Remove.{removed_kind}
 use Rattle.session_remove.specs.Laws.Row.{remove-text, remove-refused, remove-found}
-use Rattle.returned.specs.Refusal.{number_of}
-use Rattle.returned.specs.Laws.Refusal.{refused-number, refused-some, refused-none, accepted-number, not-refused}
+use Rattle.returned.specs.Laws.Refusal.{refused-number, refused-none, not-refused}
 use Rattle.session_remove.proofs.removed_object.Goals as goal
 
 pub returns-in-Err : goal.returns-in-Err

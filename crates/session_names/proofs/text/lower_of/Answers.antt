@@ -2,8 +2,8 @@
 use mathlib.Core.Path.{sym, ap, ◌∙◌}
 use native.Mathlib.Omega.{arith}
 use borrow.Author.Tests.{le-leb, lt-leb, eq-eqb, ne_eqb}
-use Rattle.returned.specs.Refusal.{refusal_number, number_of}
-use Rattle.returned.specs.Laws.Refusal.{refused-number, refused-some, refused-none, not-refused}
+use Rattle.returned.specs.Refusal.{number_of}
+use Rattle.returned.specs.Laws.Refusal.{refused-number, refused-some, not-refused}
 use Rattle.returned.specs.Returned.{rank_of}
 use Rattle.session.specs.Refusal.{lower}
 use Rattle.session_names.specs.Laws.Row.{lower-second}
