@@ -43,8 +43,15 @@ impl Refusal {
     pub fn rank(self) -> usize
         ensures { result ≡ rank_of (refusal_number self) }
     {
-        self.number()
+        rank(self.number())
     }
+}
+
+// The rank of a number.
+pub fn rank(number: usize) -> usize
+    ensures { result ≡ rank_of number }
+{
+    number
 }
 
 // The returned number alone.
@@ -72,27 +79,34 @@ pub struct Status {
     pub usage: u64,
 }
 
+impl Code {
+    pub fn of(number: usize) -> Code
+        ensures { result ≡ code number }
+    {
+        Code {
+            returned: number as u64,
+        }
+    }
+}
+
 impl From<Result<(), Refusal>> for Code {
     ghost from_gives = { λ r c. c ≡ code (number_of r) };
 
     fn from(res: Result<(), Refusal>) -> Code {
         match res {
             Ok(()) => Code { returned: 0 },
-            Err(refusal) => Code {
-                returned: refusal.number() as u64,
-            },
+            Err(refusal) => Code::of(refusal.number()),
         }
     }
 }
 
-// "The other results of a refusal are 0".
 impl From<Result<usize, Refusal>> for Value {
     ghost from_gives = { λ r c. c ≡ value (number_of r) (value_or0 r) };
 
     fn from(res: Result<usize, Refusal>) -> Value {
         match res {
             Ok(res) => Value::of(0, res),
-            Err(refusal) => Value::of(refusal.number(), 0),
+            Err(refusal) => Value::refused(refusal.number()),
         }
     }
 }
@@ -105,6 +119,13 @@ impl Value {
             returned: number as u64,
             value: res as u64,
         }
+    }
+
+    // "The other results of a refusal are 0".
+    pub fn refused(number: usize) -> Value
+        ensures { result ≡ value number 0 }
+    {
+        Value::of(number, 0)
     }
 }
 

@@ -1,5 +1,6 @@
 // A line, read.
-ghost use Rattle.std.specs.Prelude.{◌≤◌, length};
+ghost use Rattle.std.specs.Prelude.{◌≡◌, ◌≤◌, true, length, Ok, None};
+ghost use Rattle.script_arguments.specs.Blank.{blank};
 
 use crate::arguments::Arguments;
 use crate::command::read_command;
@@ -16,6 +17,7 @@ pub fn read_line(
     second: &mut [u8],
 ) -> Result<Option<Command>, BadLine>
     requires { (2048 ≤ length first.old) × (2048 ≤ length second.old) }
+    ensures { length line.now ≤ 8191 → blank line.now ≡ true → result ≡ Ok None }
 {
     if LONGEST < line.len() {
         return Err(BadLine);

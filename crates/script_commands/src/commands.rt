@@ -1,6 +1,7 @@
 // The commands on the areas and on the numbers given.
-ghost use Rattle.std.specs.Prelude.{◌≤◌, IfSome, length};
+ghost use Rattle.std.specs.Prelude.{◌≡◌, ◌≤◌, IfSome, false, length};
 ghost use Rattle.script_commands.specs.Room.{Areas};
+ghost use Rattle.script_commands.specs.Prints.{prints};
 
 use crate::answer::{Answer, put_answer};
 use crate::front::front;
@@ -17,7 +18,7 @@ pub struct State {
 }
 
 // The lengths that the numbers given ask for.
-fn fitted(given: Given) -> Option<Lengths> {
+pub fn fitted(given: Given) -> Option<Lengths> {
     let volume = volume_bytes(given.n, given.b)?;
     lent_lengths(volume, volume, log_bytes(given.m)?)
 }
@@ -39,7 +40,7 @@ fn poke_area(
 }
 
 // Copies an area over another; one copied onto itself stays.
-fn copy_area(to: Area, from: Area, s: &mut [u8], v: &mut [u8], l: &mut [u8])
+pub fn copy_area(to: Area, from: Area, s: &mut [u8], v: &mut [u8], l: &mut [u8])
     requires { Areas s.old v.old l.old }
 {
     match (to, from) {
@@ -82,7 +83,8 @@ pub fn play_areas(
     out: &mut [u8],
 ) -> Option<usize>
     requires { Areas s.old v.old l.old × (4352 ≤ length out.old) }
-    ensures { IfSome result (λ written. written ≤ length out.old) }
+    ensures within { IfSome result (λ written. written ≤ length out.old) }
+    ensures silent { IfSome result (λ written. prints play ≡ false → written ≡ 0) }
 {
     match play {
         Play::Give(given) => state.given = given,

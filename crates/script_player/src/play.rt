@@ -1,7 +1,9 @@
 // One line played, up to the call that it makes.
-ghost use Rattle.std.specs.Prelude.{◌≤◌, IfOk, OnOk, length};
+ghost use Rattle.std.specs.Prelude.{◌≡◌, ◌≤◌, true, IfOk, OnOk, length};
+ghost use Rattle.script_arguments.specs.Blank.{blank};
 ghost use Rattle.script_commands.specs.Room.{Areas, Room};
 ghost use Rattle.script_player.specs.Line.{Grown};
+ghost use Rattle.script_player.specs.Turns.{calls};
 
 use script_arguments::line::read_line;
 use script_commands::answer::{Answer, put_answer, put_bad};
@@ -32,7 +34,9 @@ fn play_line(
     out: &mut [u8],
 ) -> Result<(usize, Turn), BadLine>
     requires { Areas s.old v.old l.old × Room first.old second.old × (4352 ≤ length out.old) }
-    ensures { IfOk result (λ played. played.0 ≤ length out.old) }
+    ensures within { IfOk result (λ played. played.0 ≤ length out.old) }
+    ensures silent { IfOk result (λ played. calls played.1 ≡ true → played.0 ≡ 0) }
+    ensures nothing { length line.now ≤ 8191 → blank line.now ≡ true → IfOk result (λ played. played.0 ≡ 0) }
 {
     match read_line(line, first, second)? {
         None => Ok((0, Turn::Next)),
@@ -57,7 +61,8 @@ fn play_any(
     out: &mut [u8],
 ) -> (usize, Turn)
     requires { Areas s.old v.old l.old × Room first.old second.old × (4352 ≤ length out.old) }
-    ensures { result.0 ≤ length out.old }
+    ensures within { result.0 ≤ length out.old }
+    ensures silent { calls result.1 ≡ true → result.0 ≡ 0 }
 {
     match play_line(line, state, s, v, l, first, second, out) {
         Ok(played) => played,

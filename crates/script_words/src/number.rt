@@ -16,6 +16,9 @@ fn digit(c: u8) -> Option<u64>
     }
 }
 
+// What no number but 0 begins with.
+const ZERO: u8 = b'0';
+
 // Reads "decimal digits, 0 to 18,446,744,073,709,551,615, no sign, no needless leading zero".
 pub fn read_number(w: &[u8]) -> Option<u64>
     ensures { NumberOf w.now result }
@@ -23,7 +26,7 @@ pub fn read_number(w: &[u8]) -> Option<u64>
     let [first, ..] = w else {
         return None;
     };
-    if *first == b'0' {
+    if *first == ZERO {
         return if w.len() == 1 { Some(0) } else { None };
     }
     let mut v: u64 = 0;

@@ -1,14 +1,14 @@
 // "stat (kind, length, usage)" (document 01, "Calls").
 #![tactic(auto)]
 
-ghost use Rattle.std.specs.Prelude.{◌≡◌, []};
-ghost use Rattle.volume_questions.specs.Told.{status_or0};
+ghost use Rattle.std.specs.Prelude.{◌≡◌, [], ◌∷◌};
+ghost use Rattle.session_stat.specs.Status.{status_or0};
 ghost use Rattle.session.specs.Call.{geometry, buffers};
 ghost use Rattle.session.specs.Call;
 ghost use Rattle.session.specs.Step.{given, step};
 ghost use Rattle.returned.specs.Refusal.{number_of};
 
-use returned::Refusal;
+use returned::{Refusal, Status};
 use session_questions::{first_refusal, note_object};
 use volume_questions::object::{Stat, stat_of};
 
@@ -34,5 +34,16 @@ pub fn stat(
             Ok(told)
         }
         Err(error) => Err(Refusal::from(error)),
+    }
+}
+
+// What stat tells, or the refusal, as a struct of numbers.
+pub fn status_of(res: Result<Stat, Refusal>) -> Status
+    ensures returned { result.returned ≡ number_of res }
+    ensures told { (result.kind ∷ result.length ∷ result.usage ∷ []) ≡ status_or0 res }
+{
+    match res {
+        Ok(told) => Status::of(told.kind, told.len, told.usage),
+        Err(refusal) => Status::refused(refusal.number()),
     }
 }

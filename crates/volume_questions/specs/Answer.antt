@@ -1,5 +1,4 @@
 -- Document 01, "Calls": what stat, read and list answer and leave in their buffers, with the returned number of each answer.
-use Rattle.volume_questions.specs.Told.{stat}
 use Rattle.volume_questions.specs.declared.object.ObjectError.TheVariants.{BadNumber, NoObject}
 use Rattle.std.specs.Prelude.{ℕ, List, [], ◌∷◌, cond, length, take, drop, ltb, Result, Ok, Err}
 use Rattle.returned.specs.Returned
@@ -24,6 +23,9 @@ unfoldable pub object_answer : Volume → ℕ → Result ObjectKind ObjectError
 object_answer v o = cond (ltb o (length v)) (object_of (entry_at v o)) (Err BadNumber)
 
 -- "stat (kind, length, usage)"
+abbrev pub stat : ℕ → ℕ → ℕ → Stat
+stat k l u = record { kind = k; len = l; usage = u }
+
 abbrev pub stat_of : Result ObjectKind ObjectError → Entry → Result Stat ObjectError
 stat_of (Err BadNumber) e = Err BadNumber
 stat_of (Err NoObject) e = Err NoObject

@@ -1,4 +1,3 @@
 pub mod Listing
-pub mod Told
 pub mod Answer
 pub mod Laws

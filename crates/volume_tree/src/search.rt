@@ -38,7 +38,10 @@ pub fn search(s: &[u8], n: usize, b: usize, d: usize, wanted: &[u8]) -> Option<u
     requires { Lent n b s.now }
     ensures { result ≡ search (read_volume n b s.now) d wanted.now }
 {
-    lowest(n, |i| is_named(s, n, b, d, wanted, i))
+    let Some(found) = lowest(n, |i| is_named(s, n, b, d, wanted, i)) else {
+        return None;
+    };
+    Some(found)
 }
 
 // Whether a directory has children.

@@ -22,8 +22,7 @@ use Rattle.session_renew.proofs.Linked as b15
 use Rattle.session_stat.proofs.Linked as b16
 use Rattle.session_take.proofs.Linked as b17
 use Rattle.session_write.proofs.Linked as b18
-use Rattle.volume_questions.proofs.Linked as b19
-use Rattle.buffer.proofs.Linked as b20
+use Rattle.buffer.proofs.Linked as b19
 use Rattle.writebehind.proofs.wb_create.Symbol as s-wb_create
 use Rattle.writebehind.proofs.wb_cut.Symbol as s-wb_cut
 use Rattle.writebehind.proofs.wb_forder.Symbol as s-wb_forder
@@ -67,15 +66,15 @@ table-writebehind = link.table
 
 -- a world that has it, and those of the crates below
 pub Needs-writebehind : World → Type 0
-Needs-writebehind W = Holds W "writebehind" table-writebehind × b0.Needs-record W × b1.Needs-record_reader W × b2.Needs-returned W × b3.Needs-session_cut W × b4.Needs-session_forder W × b5.Needs-session_fsync W × b6.Needs-session_length W × b7.Needs-session_list W × b8.Needs-session_lookup W × b9.Needs-session_make W × b10.Needs-session_mount W × b11.Needs-session_push W × b12.Needs-session_read W × b13.Needs-session_remove W × b14.Needs-session_rename W × b15.Needs-session_renew W × b16.Needs-session_stat W × b17.Needs-session_take W × b18.Needs-session_write W × b19.Needs-volume_questions W × b20.Needs-buffer W × Unit {0}
+Needs-writebehind W = Holds W "writebehind" table-writebehind × b0.Needs-record W × b1.Needs-record_reader W × b2.Needs-returned W × b3.Needs-session_cut W × b4.Needs-session_forder W × b5.Needs-session_fsync W × b6.Needs-session_length W × b7.Needs-session_list W × b8.Needs-session_lookup W × b9.Needs-session_make W × b10.Needs-session_mount W × b11.Needs-session_push W × b12.Needs-session_read W × b13.Needs-session_remove W × b14.Needs-session_rename W × b15.Needs-session_renew W × b16.Needs-session_stat W × b17.Needs-session_take W × b18.Needs-session_write W × b19.Needs-buffer W × Unit {0}
 
-pub needs-writebehind : (W : World) → Holds W "writebehind" table-writebehind → b0.Needs-record W → b1.Needs-record_reader W → b2.Needs-returned W → b3.Needs-session_cut W → b4.Needs-session_forder W → b5.Needs-session_fsync W → b6.Needs-session_length W → b7.Needs-session_list W → b8.Needs-session_lookup W → b9.Needs-session_make W → b10.Needs-session_mount W → b11.Needs-session_push W → b12.Needs-session_read W → b13.Needs-session_remove W → b14.Needs-session_rename W → b15.Needs-session_renew W → b16.Needs-session_stat W → b17.Needs-session_take W → b18.Needs-session_write W → b19.Needs-volume_questions W → b20.Needs-buffer W → Needs-writebehind W
+pub needs-writebehind : (W : World) → Holds W "writebehind" table-writebehind → b0.Needs-record W → b1.Needs-record_reader W → b2.Needs-returned W → b3.Needs-session_cut W → b4.Needs-session_forder W → b5.Needs-session_fsync W → b6.Needs-session_length W → b7.Needs-session_list W → b8.Needs-session_lookup W → b9.Needs-session_make W → b10.Needs-session_mount W → b11.Needs-session_push W → b12.Needs-session_read W → b13.Needs-session_remove W → b14.Needs-session_rename W → b15.Needs-session_renew W → b16.Needs-session_stat W → b17.Needs-session_take W → b18.Needs-session_write W → b19.Needs-buffer W → Needs-writebehind W
 unfolding Needs-writebehind
-needs-writebehind W h n0 n1 n2 n3 n4 n5 n6 n7 n8 n9 n10 n11 n12 n13 n14 n15 n16 n17 n18 n19 n20 = (h, n0, n1, n2, n3, n4, n5, n6, n7, n8, n9, n10, n11, n12, n13, n14, n15, n16, n17, n18, n19, n20, tt)
+needs-writebehind W h n0 n1 n2 n3 n4 n5 n6 n7 n8 n9 n10 n11 n12 n13 n14 n15 n16 n17 n18 n19 = (h, n0, n1, n2, n3, n4, n5, n6, n7, n8, n9, n10, n11, n12, n13, n14, n15, n16, n17, n18, n19, tt)
 
 below : (W : World) → Needs-writebehind W → link.Below W
 unfolding Needs-writebehind
-below W n = (b0.linked-kind-Kind-code W n.1, (b1.linked-read_record W n.2, (b2.linked-CodeFromResultUnitRefusal-from W n.3, (b2.linked-Refusal-number W n.3, (b2.linked-Status-of W n.3, (b2.linked-Status-refused W n.3, (b2.linked-ValueFromResultUsizeRefusal-from W n.3, (b3.linked-cut W n.4, (b4.linked-forder W n.5, (b5.linked-fsync W n.6, (b6.linked-set_length W n.7, (b7.linked-list W n.8, (b8.linked-lookup W n.9, (b9.linked-create W n.10, (b9.linked-make_directory W n.10, (b10.linked-format W n.11, (b10.linked-mount W n.11, (b11.linked-push W n.12, (b12.linked-read W n.13, (b13.linked-remove_directory W n.14, (b13.linked-remove_file W n.14, (b14.linked-rename W n.15, (b15.linked-renew W n.16, (b16.linked-stat W n.17, (b17.linked-take W n.18, (b18.linked-write-write W n.19, tt))))))))))))))))))))))))))
+below W n = (b0.linked-kind-Kind-code W n.1, (b1.linked-read_record W n.2, (b2.linked-CodeFromResultUnitRefusal-from W n.3, (b2.linked-Refusal-number W n.3, (b2.linked-ValueFromResultUsizeRefusal-from W n.3, (b3.linked-cut W n.4, (b4.linked-forder W n.5, (b5.linked-fsync W n.6, (b6.linked-set_length W n.7, (b7.linked-list W n.8, (b8.linked-lookup W n.9, (b9.linked-create W n.10, (b9.linked-make_directory W n.10, (b10.linked-format W n.11, (b10.linked-mount W n.11, (b11.linked-push W n.12, (b12.linked-read W n.13, (b13.linked-remove_directory W n.14, (b13.linked-remove_file W n.14, (b14.linked-rename W n.15, (b15.linked-renew W n.16, (b16.linked-stat W n.17, (b16.linked-status_of W n.17, (b17.linked-take W n.18, (b18.linked-write-write W n.19, tt)))))))))))))))))))))))))
 
 pub linked-wb_create : (W : World) → Needs-writebehind W → HasT (in_world W) true s-wb_create.code
 unfolding Needs-writebehind table-writebehind

@@ -270,7 +270,7 @@ there-session_read = needs-session_read world refl there-session_questions there
 
 there-session_stat : Needs-session_stat world
 unfolding world
-there-session_stat = needs-session_stat world refl there-session_questions there-volume_questions there-volume_tree there-returned
+there-session_stat = needs-session_stat world refl there-returned there-session_questions there-volume_questions there-volume_tree
 
 there-session_list : Needs-session_list world
 unfolding world
@@ -286,4 +286,4 @@ there-session_mount = needs-session_mount world refl there-buffer there-session_
 
 pub there-writebehind : Needs-writebehind world
 unfolding world
-there-writebehind = needs-writebehind world refl there-record there-record_reader there-returned there-session_cut there-session_forder there-session_fsync there-session_length there-session_list there-session_lookup there-session_make there-session_mount there-session_push there-session_read there-session_remove there-session_rename there-session_renew there-session_stat there-session_take there-session_write there-volume_questions there-buffer
+there-writebehind = needs-writebehind world refl there-record there-record_reader there-returned there-session_cut there-session_forder there-session_fsync there-session_length there-session_list there-session_lookup there-session_make there-session_mount there-session_push there-session_read there-session_remove there-session_rename there-session_renew there-session_stat there-session_take there-session_write there-buffer

@@ -7,26 +7,12 @@ ghost use Rattle.record.specs.Decode.{decode_record};
 ghost use Rattle.session.specs.Call.{geometry, buffers, issuer};
 ghost use Rattle.session.specs.Call;
 ghost use Rattle.session.specs.Step.{given, step, format, format_leaves, mount};
-ghost use Rattle.returned.specs.Refusal.{number_of};
-ghost use Rattle.volume_questions.specs.Told.{status_or0};
 ghost use Rattle.writebehind.specs.Loss.{loss_of};
 
 pub mod loss;
 
 use crate::loss::{Loss, loss_at};
-use returned::{Code, Refusal, Status, Value};
-use volume_questions::object::Stat;
-
-// What stat tells, or the refusal, as a struct of numbers.
-fn status_of(res: Result<Stat, Refusal>) -> Status
-    ensures returned { result.returned ≡ number_of res }
-    ensures told { (result.kind ∷ result.length ∷ result.usage ∷ []) ≡ status_or0 res }
-{
-    match res {
-        Ok(told) => Status::of(told.kind, told.len, told.usage),
-        Err(refusal) => Status::refused(refusal.number()),
-    }
-}
+use returned::{Code, Status, Value};
 
 // "Format makes a server volume with only a root."
 pub fn wb_format(n: u64, b: u64, m: u64, server: &mut [u8]) -> Code
@@ -112,7 +98,7 @@ pub fn wb_stat(
     ensures { given result.returned (result.kind ∷ result.length ∷ result.usage ∷ []) [] (buffers server.now view.now log.new)
         ≡ step (geometry n b m) (Call.stat program object) (buffers server.now view.now log.old) }
 {
-    status_of(session_stat::stat(
+    session_stat::status_of(session_stat::stat(
         n as usize,
         b as usize,
         m as usize,

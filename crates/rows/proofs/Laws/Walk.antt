@@ -24,7 +24,7 @@ row_at s i h = rows-at (length s / row_bytes) i s h
 
 module _ (l : List Row) (i : ℕ) (r : Row) (h : slice_get l i ≡ Some r) where
   -- The row at a position, and those behind it.
-  row_here : drop i l ≡ r ∷ drop (i + 1) l
+  pub row_here : drop i l ≡ r ∷ drop (i + 1) l
   row_here =
       drop-cons l i r (slice_get_within l i r h)
       ∙ rw (get_or_from_slice_get l i r r h, add-one i) refl

@@ -1,6 +1,5 @@
 -- What the questions answer and leave, by what the object's number names (document 01, "Calls").
 -- Assumes nothing.
-use Rattle.volume_questions.specs.Told.{stat}
 use Rattle.volume_questions.specs.declared.object.ObjectError.TheVariants.{BadNumber, NoObject}
 use Rattle.std.specs.Prelude.{ℕ, ◌≤◌, ◌<◌, Bool, List, take, drop, Result, Ok, Err}
 use Rattle.std.proofs.Common.{zero-add, arith, ap, ◌∙◌}
@@ -20,7 +19,7 @@ use Rattle.volume_questions.specs.declared.reading.ReadError.{ReadError}
 use Rattle.volume_questions.specs.declared.reading.ReadError.TheVariants.{BadRange}
 use Rattle.volume_questions.specs.declared.listing.ListError.{ListError}
 use Rattle.volume_questions.specs.declared.listing.ListError.TheVariants.{Short}
-use Rattle.volume_questions.specs.Answer.{object_of, object_answer, stat_of, stat_answer, read_of, read_answer, read_left, read_leaves, list_of, list_answer, list_left, list_leaves}
+use Rattle.volume_questions.specs.Answer.{stat, object_of, object_answer, stat_of, stat_answer, read_of, read_answer, read_left, read_leaves, list_of, list_answer, list_left, list_leaves}
 
 -- What stat tells of an entry that is used, be it a file or a directory.
 used-stat : (e : Entry) (file : Bool) → stat_of (cond file (Ok File) (Ok Directory)) e ≡ (Ok (stat (kind_number e) (length (contents_of e)) (usage (length (contents_of e)))))

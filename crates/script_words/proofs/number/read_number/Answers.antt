@@ -9,10 +9,10 @@ pub returns-in_default : goal.returns-in_default
 returns-in_default c = λ x s e. refused-empty c.args.w.now (omega arith) x e
 
 pub returns-then-w-eq1 : goal.returns-then-w-eq1
-returns-then-w-eq1 c = (whole-zero c.args.w.now c.if-first-eq48.true c.if-w-eq1.true, omega arith)
+returns-then-w-eq1 c = (whole-zero c.args.w.now c.if-first-eq-ZERO.true c.if-w-eq1.true, omega arith)
 
 pub returns-else-w-eq1 : goal.returns-else-w-eq1
-returns-else-w-eq1 c = λ x s e. refused-zero c.args.w.now c.if-first-eq48.true c.if-w-eq1.false x e
+returns-else-w-eq1 c = λ x s e. refused-zero c.args.w.now c.if-first-eq-ZERO.true c.if-w-eq1.false x e
 
 pub loop-c-init : goal.loop-c-init
 loop-c-init c = (omega arith, begun-none _)
@@ -27,7 +27,7 @@ pub returns-in_err-checked_mul : goal.returns-in_err-checked_mul
 returns-in_err-checked_mul c =
     let l = c.loop-c in
     let d = c.in_ok-d.ensures in
-    let b = begun_more c.args.w.now l.c-index l.v c.in_ok-d.d l.invariant.1 (omega arith) c.if-first-eq48.false d.0 (omega arith) in
+    let b = begun_more c.args.w.now l.c-index l.v c.in_ok-d.d l.invariant.1 (omega arith) c.if-first-eq-ZERO.false d.0 (omega arith) in
     let over = c.in_err-checked_mul.ensures in
     rw c.from_residual-in_err-checked_mul.ensures (λ x s e. refused-large c.args.w.now l.c-index _ b (omega (arith, over)) x s e)
 
@@ -35,7 +35,7 @@ pub returns-in_err-v : goal.returns-in_err-v
 returns-in_err-v c =
     let l = c.loop-c in
     let d = c.in_ok-d.ensures in
-    let b = begun_more c.args.w.now l.c-index l.v c.in_ok-d.d l.invariant.1 (omega arith) c.if-first-eq48.false d.0 (omega arith) in
+    let b = begun_more c.args.w.now l.c-index l.v c.in_ok-d.d l.invariant.1 (omega arith) c.if-first-eq-ZERO.false d.0 (omega arith) in
     let over = c.in_err-v.ensures in
     let m = c.in_ok-checked_mul.ensures in
     rw c.from_residual-in_err-v.ensures (λ x s e. refused-large c.args.w.now l.c-index _ b (omega (arith, over, m)) x s e)
@@ -44,7 +44,7 @@ pub loop-c-preserved : goal.loop-c-preserved
 loop-c-preserved c =
     let l = c.loop-c in
     let d = c.in_ok-d.ensures in
-    let b = begun_more c.args.w.now l.c-index l.v c.in_ok-d.d l.invariant.1 (omega arith) c.if-first-eq48.false d.0 (omega arith) in
+    let b = begun_more c.args.w.now l.c-index l.v c.in_ok-d.d l.invariant.1 (omega arith) c.if-first-eq-ZERO.false d.0 (omega arith) in
     let m = c.in_ok-checked_mul.ensures in
     let a = c.in_ok-v.ensures in
     let e : 10 * l.v + c.in_ok-d.d ≡ c.in_ok-v.v = omega (arith, m, a) in

@@ -1,7 +1,6 @@
 -- `volume_questions::object::stat_of` meets its contract: the tests before each return settle what the number names.
 -- Assumes nothing.
 use Rattle.std.specs.Prelude.{Ok, Err}
-use Rattle.volume_questions.specs.Told.{stat}
 use Rattle.volume_questions.specs.declared.object.ObjectError.TheVariants.{BadNumber, NoObject}
 use Prim.Native.Nat.{ℕ, ◌≤◌, ◌<◌}
 use mathlib.Core.List.{List}
@@ -13,7 +12,7 @@ use Rattle.volume_tree.specs.Volume.{entry_at}
 use Rattle.volume_tree.specs.Stored.{read_volume}
 use Rattle.volume_tree.specs.Laws.Lent.{length-read, entry-long}
 use Rattle.volume_tree.specs.Laws.Answer.{settled, of_entry}
-use Rattle.volume_questions.specs.Answer.{stat_answer}
+use Rattle.volume_questions.specs.Answer.{stat, stat_answer}
 use Rattle.volume_questions.specs.Laws.Answer.{stat-past, stat-free, stat-used}
 use Rattle.volume_questions.proofs.object.stat_of.Goals as goal
 
